@@ -1,0 +1,6 @@
+pub mod Numbers
+pub mod Refusals
+pub mod Votes
+pub mod Items
+pub mod Messages
+pub mod Answers
