@@ -3,4 +3,7 @@ pub mod Refusals
 pub mod Votes
 pub mod Items
 pub mod Messages
+pub mod ItemFormat
+pub mod Requests
+pub mod MessageFormat
 pub mod Answers
