@@ -1,6 +1,7 @@
 pub mod Numbers
 pub mod Refusals
 pub mod Votes
+pub mod Bytes
 pub mod Items
 pub mod Messages
 pub mod ItemFormat

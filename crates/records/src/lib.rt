@@ -1,0 +1,5 @@
+//! Records of items: reading, walking and writing them.
+
+pub mod item;
+pub mod items;
+pub mod writer;
