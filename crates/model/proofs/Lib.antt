@@ -1,2 +1,3 @@
 pub mod ItemSteps
+pub mod ItemLists
 pub mod Splices

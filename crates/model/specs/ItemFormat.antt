@@ -52,6 +52,10 @@ areItems (i ∷ is) = isItem i && areItems is
 abbrev pub isList : List Item → Bool
 isList is = leb 1 (length is) && leb (length is) mostItems && areItems is
 
+-- how many bytes an item list takes; none where it has none
+abbrev pub listSize : List Item → Option ℕ
+listSize is = cond (isList is) (Some (length (encodeList is))) None
+
 -- ## Reading
 
 -- an item from its five leading fields and the bytes behind them, with what is left

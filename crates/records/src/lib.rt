@@ -2,4 +2,5 @@
 
 pub mod item;
 pub mod items;
+mod lists;
 pub mod writer;

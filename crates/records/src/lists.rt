@@ -1,0 +1,77 @@
+//! Item lists put into a buffer, from a slice of items and from a cursor.
+
+ghost use mathlib.Core.Path.{_≡_};
+ghost use mathlib.Core.Bool.{true};
+ghost use mathlib.Core.List.{map};
+ghost use Prim.Native.Nat.{_+_, _≤_};
+ghost use lib.ListN.{length};
+ghost use Rattle.model.specs.Bytes.{splice};
+ghost use Rattle.model.specs.ItemFormat.{areItems, encodeItems, listSize};
+ghost use Rattle.records.specs.Meaning.{itemMeaning};
+ghost use Rattle.records.specs.Cursor.{itemsMeaning};
+use crate::item::Item;
+use crate::items::Items;
+use crate::items::ItemsIterator;
+use crate::writer::item_size;
+use crate::writer::put_item;
+use model::numbers::MOST_ITEMS;
+
+/// How many bytes an item list takes in a record; none where no record holds it.
+pub(crate) fn slice_size(items: &[Item<'_>]) -> Option<usize>
+    ensures { λ r. ⌜ r ≡ listSize (map itemMeaning (now (items .entry))) ⌝ }
+{
+    if items.len() < 1 || items.len() > MOST_ITEMS as usize {
+        return None;
+    }
+    let mut size = 1;
+    for item in items {
+        let Some(more) = item_size(item) else {
+            return None;
+        };
+        size += more;
+    }
+    Some(size)
+}
+
+/// Puts the items of a slice one behind the other.
+pub(crate) fn put_slice(buffer: &mut [u8], at: usize, items: &[Item<'_>])
+    requires { ⌜ areItems (map itemMeaning (now items)) ≡ true ⌝ }
+    requires { ⌜ at + length (encodeItems (map itemMeaning (now items))) ≤ length (now buffer) ⌝ }
+    ensures { λ _. ⌜ now (buffer .exit) ≡ splice (now (buffer .entry)) at (encodeItems (map itemMeaning (now (items .entry)))) ⌝ }
+{
+    let mut end = at;
+    for item in items {
+        end = put_item(buffer, end, item);
+    }
+}
+
+/// How many bytes the items to come take as a list in a record; none where no record holds them.
+pub(crate) fn cursor_size(items: Items<'_>) -> Option<usize>
+    ensures { λ r. ⌜ r ≡ listSize (itemsMeaning (items .entry)) ⌝ }
+{
+    let mut count = 0;
+    let mut size = 1;
+    for item in items {
+        if count == MOST_ITEMS as usize {
+            return None;
+        }
+        let Some(more) = item_size(&item) else {
+            return None;
+        };
+        count += 1;
+        size += more;
+    }
+    if count == 0 { None } else { Some(size) }
+}
+
+/// Puts the items to come one behind the other.
+pub(crate) fn put_cursor(buffer: &mut [u8], at: usize, items: Items<'_>)
+    requires { ⌜ areItems (itemsMeaning items) ≡ true ⌝ }
+    requires { ⌜ at + length (encodeItems (itemsMeaning items)) ≤ length (now buffer) ⌝ }
+    ensures { λ _. ⌜ now (buffer .exit) ≡ splice (now (buffer .entry)) at (encodeItems (itemsMeaning (items .entry))) ⌝ }
+{
+    let mut end = at;
+    for item in items {
+        end = put_item(buffer, end, &item);
+    }
+}
