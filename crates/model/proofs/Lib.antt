@@ -1,3 +1,4 @@
 pub mod ItemSteps
 pub mod ItemLists
 pub mod Splices
+pub mod RequestLaws

@@ -7,4 +7,5 @@ pub mod Messages
 pub mod ItemFormat
 pub mod Requests
 pub mod MessageFormat
+pub mod Written
 pub mod Answers

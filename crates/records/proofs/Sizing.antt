@@ -1,6 +1,6 @@
 -- Adding up the size of an item list, one item after the other.
 use Prim.Native.Nat.{ℕ, _+_, _≤_, _<_}
-use mathlib.Core.Path.{_≡_, refl, sym, ap, subst, _∙_}
+use mathlib.Core.Path.{_≡_, refl, sym, ap, ap₂, _∙_}
 use mathlib.Core.Bool.{Bool, true, false, cond, _&&_}
 use mathlib.Core.List.{List, [], _∷_, map}
 use mathlib.Core.Logic.{_⊎_, inl, inr}
@@ -13,9 +13,11 @@ use Rattle.std.proofs.shelf.Ways.{tells}
 use Rattle.std.specs.declared.option.Option.{Option}
 use Rattle.std.specs.declared.option.Option.the-variants.{Some, None}
 use Rattle.model.specs.Items.{Item as PlainItem}
-use Rattle.model.specs.ItemFormat.{encodeItem, encodeItems, isItem, areItems, isList, listSize}
+use Rattle.model.specs.ItemFormat.{encodeItem, encodeItems, encodeList, isItem, areItems, isList, listSize}
 use Rattle.model.proofs.ItemLists.{encode-none, encode-more-length, are-none, are-more, encode-bound}
 use Rattle.records.specs.declared.item.Item.{Item}
+use Rattle.records.specs.declared.lists.Extent.{Extent}
+use Rattle.records.specs.Extents.{listExtent}
 use Rattle.records.specs.Meaning.{itemMeaning, noItem}
 
 -- ## The first item of what is left of a slice
@@ -90,3 +92,22 @@ sizing-all size left all none some few (sum, form) =
 pub size-none : (all : List PlainItem) → (length all < 1) ⊎ (8 < length all) → None ≡ listSize all
 size-none all (inl h) = grind (arith, tells)
 size-none all (inr h) = grind (arith, tells)
+
+-- ## The size with the count
+
+pub extent-none : (all : List PlainItem) → None ≡ listSize all → None ≡ listExtent all
+extent-none all e = grind (arith, tells)
+
+pub extent-some :
+    (all : List PlainItem) (n size : ℕ) →
+    n ≡ length all →
+    Some size ≡ listSize all →
+    Some (record { count = n; size = size }) ≡ listExtent all
+extent-some all n size count e = go (isList all) e
+  where
+    go :
+        (b : Bool) →
+        Some size ≡ cond b (Some (length (encodeList all))) None →
+        _≡_ {A = Option Extent} (Some (record { count = n; size = size })) (cond b (Some (record { count = length all; size = length (encodeList all) })) None)
+    go true e = let s : size ≡ length (encodeList all) = cc in ap₂ (λ k m. Some (record { count = k; size = m })) count s
+    go false e = cc

@@ -3,4 +3,6 @@
 pub mod item;
 pub mod items;
 mod lists;
+pub mod record;
+pub mod request;
 pub mod writer;

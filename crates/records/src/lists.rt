@@ -9,12 +9,22 @@ ghost use Rattle.model.specs.Bytes.{splice};
 ghost use Rattle.model.specs.ItemFormat.{areItems, encodeItems, listSize};
 ghost use Rattle.records.specs.Meaning.{itemMeaning};
 ghost use Rattle.records.specs.Cursor.{itemsMeaning};
+ghost use Rattle.records.specs.Extents.{listExtent};
 use crate::item::Item;
 use crate::items::Items;
 use crate::items::ItemsIterator;
 use crate::writer::item_size;
 use crate::writer::put_item;
 use model::numbers::MOST_ITEMS;
+
+/// How much an item list takes in a record.
+#[derive(Clone, Copy)]
+pub(crate) struct Extent {
+    /// Its items.
+    pub(crate) count: u8,
+    /// Its bytes, the count among them.
+    pub(crate) size: usize,
+}
 
 /// How many bytes an item list takes in a record; none where no record holds it.
 pub(crate) fn slice_size(items: &[Item<'_>]) -> Option<usize>
@@ -45,14 +55,14 @@ pub(crate) fn put_slice(buffer: &mut [u8], at: usize, items: &[Item<'_>])
     }
 }
 
-/// How many bytes the items to come take as a list in a record; none where no record holds them.
-pub(crate) fn cursor_size(items: Items<'_>) -> Option<usize>
-    ensures { λ r. ⌜ r ≡ listSize (itemsMeaning (items .entry)) ⌝ }
+/// How much the items to come take as a list in a record; none where no record holds them.
+pub(crate) fn cursor_extent(items: Items<'_>) -> Option<Extent>
+    ensures { λ r. ⌜ r ≡ listExtent (itemsMeaning (items .entry)) ⌝ }
 {
     let mut count = 0;
     let mut size = 1;
     for item in items {
-        if count == MOST_ITEMS as usize {
+        if count == MOST_ITEMS {
             return None;
         }
         let Some(more) = item_size(&item) else {
@@ -61,7 +71,7 @@ pub(crate) fn cursor_size(items: Items<'_>) -> Option<usize>
         count += 1;
         size += more;
     }
-    if count == 0 { None } else { Some(size) }
+    if count == 0 { None } else { Some(Extent { count, size }) }
 }
 
 /// Puts the items to come one behind the other.

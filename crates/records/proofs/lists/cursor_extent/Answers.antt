@@ -5,12 +5,12 @@ use native.Mathlib.Omega.{arith}
 use lib.ListN.{length}
 use Rattle.records.specs.Meaning.{itemMeaning}
 use Rattle.records.specs.Cursor.{itemsMeaning}
-use Rattle.records.proofs.Sizing.{size-bound, sizing-more, sizing-stuck, sizing-all}
-use Rattle.records.proofs.lists.cursor_size.Needs as need
+use Rattle.records.proofs.Sizing.{size-bound, sizing-more, sizing-stuck, sizing-all, extent-none, extent-some}
+use Rattle.records.proofs.lists.cursor_extent.Needs as need
 
 pub returns-in-rest : need.returns-in-rest
 returns-in-rest c =
-    sizing-stuck _ _ _ _ _ (c .in-Some .ensures tt .steps) (c .in-rest .ensures tt) (c .loop-item .inv .5)
+    extent-none (itemsMeaning (c .args .items)) (sizing-stuck _ _ _ _ _ (c .in-Some .ensures tt .steps) (c .in-rest .ensures tt) (c .loop-item .inv .5))
 
 pub loop-item-again : need.loop-item-again
 loop-item-again c =
@@ -31,4 +31,4 @@ returns-else-count-eq0 c =
     in let all = itemsMeaning (c .args .items)
     in let some : 1 ≤ length all = omega (arith, n)
     in let few : length all ≤ 8 = omega (arith, n)
-    in sizing-all _ _ all none some few (c .loop-item .inv .5)
+    in extent-some all _ _ (omega (arith, n)) (sizing-all _ _ all none some few (c .loop-item .inv .5))

@@ -4,7 +4,7 @@ use mathlib.Core.Path.{_≡_}
 use lib.ListN.{length}
 use Rattle.records.specs.Cursor.{itemsMeaning}
 use Rattle.records.proofs.Sizing.{Sizing}
-use Rattle.records.proofs.lists.cursor_size.Given as given
+use Rattle.records.proofs.lists.cursor_extent.Given as given
 
 abbrev pub Inv-loop-item : given.InvT-loop-item
 Inv-loop-item l =
