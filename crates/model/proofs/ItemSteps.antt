@@ -88,6 +88,7 @@ decoded-take (suc n) bs h = go (decodeItem bs) (λ rest. decoded-take n rest) h
         mapped (λ is. i ∷ is) o ≡ Some (i ∷ is)
     one i None is f h = cc
     one i (Some js) is f h = let e : Some js ≡ Some is = f refl in cc
+
     go :
         (o : Option (Item × List ℕ)) →
         ((rest : List ℕ) → isSome (decodeItems n rest) ≡ true → decodeItems n rest ≡ Some (takeItems n rest)) →

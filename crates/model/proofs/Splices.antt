@@ -29,10 +29,10 @@ splice-more xs at ys zs h =
     let one : take (at + length ys) (splice xs at ys) ≡ front ++ ys = ap (take (at + length ys)) same ∙ take-at (front ++ ys) tail _ n in
     let two : drop (at + length ys) (splice xs at ys) ≡ tail = ap (drop (at + length ys)) same ∙ drop-at (front ++ ys) tail _ n in
     let three : drop (at + length ys + length zs) (splice xs at ys) ≡ drop (at + length (ys ++ zs)) xs =
-        sym (drop-drop (length zs) (at + length ys) (splice xs at ys)) ∙
-        ap (drop (length zs)) two ∙
-        drop-drop (length zs) (at + length ys) xs ∙
-        ap (λ k. drop k xs) (omega (arith, length-append ys zs)) in
+    sym (drop-drop (length zs) (at + length ys) (splice xs at ys)) ∙
+    ap (drop (length zs)) two ∙
+    drop-drop (length zs) (at + length ys) xs ∙
+    ap (λ k. drop k xs) (omega (arith, length-append ys zs)) in
     rw (one, three) (append-assoc front ys (zs ++ drop (at + length (ys ++ zs)) xs) ∙ ap (λ t. front ++ t) (sym (append-assoc ys zs (drop (at + length (ys ++ zs)) xs))))
 
 pub length-splice :

@@ -8,4 +8,5 @@ pub mod ItemFormat
 pub mod Requests
 pub mod MessageFormat
 pub mod Written
+pub mod RoundTrips
 pub mod Answers

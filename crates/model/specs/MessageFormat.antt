@@ -1,5 +1,5 @@
 -- The bytes of messages, written and read.
-use Prim.Native.Nat.{ℕ, _+_, _*_, _/_, _%_}
+use Prim.Native.Nat.{ℕ, _+_, _*_}
 use mathlib.Core.Bool.{Bool, true, false, cond, _&&_, _||_}
 use mathlib.Core.List.{List, [], _∷_, _++_}
 use lib.Dec.{eqb, ltb, leb}
@@ -45,11 +45,19 @@ kindOf (reply b) = 5
 kindOf query = 6
 kindOf settled = 7
 
--- a kind byte and a number; a coordinator's number is the tid
+abbrev pub partyKind : Party → ℕ
+partyKind (Node n) = 0
+partyKind Coordinator = 1
+partyKind (Recovery n) = 2
+
+-- a coordinator's number is the tid
+abbrev pub partyNumber : ℕ → Party → ℕ
+partyNumber tid (Node n) = n
+partyNumber tid Coordinator = tid
+partyNumber tid (Recovery n) = n
+
 abbrev pub encodeParty : ℕ → Party → List ℕ
-encodeParty tid (Node n) = 0 ∷ (n / 256) ∷ (n % 256) ∷ []
-encodeParty tid Coordinator = 1 ∷ (tid / 256) ∷ (tid % 256) ∷ []
-encodeParty tid (Recovery n) = 2 ∷ (n / 256) ∷ (n % 256) ∷ []
+encodeParty tid p = partyKind p ∷ be16 (partyNumber tid p)
 
 abbrev pub flagByte : Bool → ℕ
 flagByte b = cond b 1 0

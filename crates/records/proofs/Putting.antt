@@ -40,11 +40,13 @@ pub putting-more :
 putting-more buffer next start end n at i left rest all first room behind put (bytes, sum, form) =
     let l : length (encodeItems left) ≡ length (encodeItem i) + length (encodeItems rest) = ap (λ xs. length (encodeItems xs)) first ∙ encode-more-length i rest
     in let fits : end ≤ length buffer = omega (arith, l, sum)
-    in (ap₂ (λ b k. splice b k (encodeItems rest)) put behind ∙
-        splice-more buffer end (encodeItem i) (encodeItems rest) fits ∙
-        ap (splice buffer end) (sym (encode-more i rest) ∙ sym (ap encodeItems first)) ∙ bytes,
-        omega (arith, l, sum, behind),
-        and-parts (isItem i) (areItems rest) (sym (are-more i rest) ∙ sym (ap areItems first) ∙ form) .1)
+    in (
+      ap₂ (λ b k. splice b k (encodeItems rest)) put behind ∙
+          splice-more buffer end (encodeItem i) (encodeItems rest) fits ∙
+          ap (splice buffer end) (sym (encode-more i rest) ∙ sym (ap encodeItems first)) ∙ bytes,
+      omega (arith, l, sum, behind),
+      and-parts (isItem i) (areItems rest) (sym (are-more i rest) ∙ sym (ap areItems first) ∙ form) .1,
+    )
 
 pub putting-all :
     (buffer start : List ℕ) (end at : ℕ) (left all : List PlainItem) →

@@ -12,11 +12,23 @@ pub(crate) const FIELDS: usize = 5;
 #[derive(Clone, Copy)]
 pub enum Item<'a> {
     /// The bytes that have to stand at the address, or nothing is done anywhere.
-    Compare { node: u8, address: u16, data: &'a [u8] },
+    Compare {
+        node: u8,
+        address: u16,
+        data: &'a [u8],
+    },
     /// So many bytes from the address on are read.
-    Read { node: u8, address: u16, length: u8 },
+    Read {
+        node: u8,
+        address: u16,
+        length: u8,
+    },
     /// The bytes that are put at the address.
-    Write { node: u8, address: u16, data: &'a [u8] },
+    Write {
+        node: u8,
+        address: u16,
+        data: &'a [u8],
+    },
 }
 
 /// The item at the start of some bytes, and the bytes behind it; none where there is no whole item.
@@ -35,15 +47,36 @@ pub fn split_item<'a>(bytes: &'a [u8]) -> Option<(Item<'a>, &'a [u8])>
         return None;
     }
     if kind == 2 {
-        return Some((Item::Read { node, address, length }, rest));
+        return Some((
+            Item::Read {
+                node,
+                address,
+                length,
+            },
+            rest,
+        ));
     }
     if rest.len() < length as usize {
         return None;
     }
     let (data, after) = rest.split_at(length as usize);
     match kind {
-        1 => Some((Item::Compare { node, address, data }, after)),
-        3 => Some((Item::Write { node, address, data }, after)),
+        1 => Some((
+            Item::Compare {
+                node,
+                address,
+                data,
+            },
+            after,
+        )),
+        3 => Some((
+            Item::Write {
+                node,
+                address,
+                data,
+            },
+            after,
+        )),
         _ => None,
     }
 }

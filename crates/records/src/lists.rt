@@ -71,7 +71,11 @@ pub(crate) fn cursor_extent(items: Items<'_>) -> Option<Extent>
         count += 1;
         size += more;
     }
-    if count == 0 { None } else { Some(Extent { count, size }) }
+    if count == 0 {
+        None
+    } else {
+        Some(Extent { count, size })
+    }
 }
 
 /// Puts the items to come one behind the other.

@@ -62,12 +62,24 @@ pub(crate) fn put_item(buffer: &mut [u8], at: usize, item: &Item<'_>) -> usize
     ensures bytes { λ _. ⌜ now (buffer .exit) ≡ splice (now (buffer .entry)) at (encodeItem (itemMeaning (now (item .entry)))) ⌝ }
 {
     match item {
-        Item::Compare { node, address, data } => put_data(buffer, at, 1, *node, *address, data),
-        Item::Read { node, address, length } => {
+        Item::Compare {
+            node,
+            address,
+            data,
+        } => put_data(buffer, at, 1, *node, *address, data),
+        Item::Read {
+            node,
+            address,
+            length,
+        } => {
             put(buffer, at, &fields(2, *node, *address, *length));
             at + FIELDS
         }
-        Item::Write { node, address, data } => put_data(buffer, at, 3, *node, *address, data),
+        Item::Write {
+            node,
+            address,
+            data,
+        } => put_data(buffer, at, 3, *node, *address, data),
     }
 }
 

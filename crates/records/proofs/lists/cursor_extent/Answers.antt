@@ -17,12 +17,14 @@ loop-item-again c =
     let first = c .in-Some .ensures tt .steps
     in let item = itemMeaning (c .in-Some .item)
     in let bound = size-bound item _ (c .in-Some-item-size .ensures tt)
-    in (tt,
-        tt,
-        omega (arith, bound),
-        omega arith,
-        omega (arith, ap length first),
-        sizing-more _ _ item _ _ _ first (c .in-Some-item-size .ensures tt) (c .loop-item .inv .5))
+    in (
+      tt,
+      tt,
+      omega (arith, bound),
+      omega arith,
+      omega (arith, ap length first),
+      sizing-more _ _ item _ _ _ first (c .in-Some-item-size .ensures tt) (c .loop-item .inv .5),
+    )
 
 pub returns-else-count-eq0 : need.returns-else-count-eq0
 returns-else-count-eq0 c =

@@ -19,16 +19,18 @@ put-item-end-requires c κs =
 pub loop-item-again : need.loop-item-again
 loop-item-again c =
     let room : c .args .at + length (encodeItems (itemsMeaning (c .args .items))) ≤ length (c .loop-item .buffer) = omega arith
-    in (tt,
-        tt,
-        putting-more (c .loop-item .buffer) (c .put-item-end .last .buffer) (c .args .buffer .now) (c .loop-item .end) _
-        (c .args .at)
-        (itemMeaning (c .in-Some .item)) _ _ _
-        (c .in-Some .ensures tt .steps)
-        room
-        (c .put-item-end .ensures .end)
-        (c .put-item-end .ensures .bytes)
-        (c .loop-item .inv .2))
+    in (
+      tt,
+      tt,
+      putting-more (c .loop-item .buffer) (c .put-item-end .last .buffer) (c .args .buffer .now) (c .loop-item .end) _
+          (c .args .at)
+          (itemMeaning (c .in-Some .item)) _ _ _
+          (c .in-Some .ensures tt .steps)
+          room
+          (c .put-item-end .ensures .end)
+          (c .put-item-end .ensures .bytes)
+          (c .loop-item .inv .2),
+    )
 
 pub returns : need.returns
 returns c =

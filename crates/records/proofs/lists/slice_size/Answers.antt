@@ -15,9 +15,9 @@ pub returns-then-items-lt1 : need.returns-then-items-lt1
 returns-then-items-lt1 c =
     let n = length-map (c .args .items .now) itemMeaning
     in let all = map itemMeaning (c .args .items .now)
-    in elim (c .then-items-lt1 .came)
-    [ then-items-lt1·by·then-items-lt1 w ↦ size-none all (inl (omega (arith, n, w .if-items-lt1 .taken)))
-    | then-items-lt1·by·else-items-lt1·then-items w ↦ size-none all (inr (omega (arith, n, w .if-items .taken)))
+    in elim (c .then-items-lt1 .came) [
+      | then-items-lt1·by·then-items-lt1 w ↦ size-none all (inl (omega (arith, n, w .if-items-lt1 .taken)))
+      | then-items-lt1·by·else-items-lt1·then-items w ↦ size-none all (inr (omega (arith, n, w .if-items .taken)))
     ]
 
 pub returns-in-rest : need.returns-in-rest
@@ -29,10 +29,12 @@ pub loop-item-again : need.loop-item-again
 loop-item-again c =
     let item = itemMeaning (getD (c .args .items .now) (c .loop-item .item-index) noItem)
     in let bound = size-bound item _ (c .in-Some .ensures tt)
-    in (omega (arith, bound, c .loop-item .inv .0),
-        sizing-more _ _ item _ _ _ (first-left (c .args .items .now) _ (c .loop-item-test .taken))
-        (c .in-Some .ensures tt)
-        (c .loop-item .inv .1))
+    in (
+      omega (arith, bound, c .loop-item .inv .0),
+      sizing-more _ _ item _ _ _ (first-left (c .args .items .now) _ (c .loop-item-test .taken))
+          (c .in-Some .ensures tt)
+          (c .loop-item .inv .1),
+    )
 
 pub returns : need.returns
 returns c =

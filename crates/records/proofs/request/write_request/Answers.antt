@@ -47,14 +47,14 @@ returns c =
     in let count : List ℕ = length (c .args .items .now) ∷ []
     in let room : 0 + (3 + 1) ≤ length buffer = omega (arith, s .1)
     in let two : c .put-2 .last .buffer ≡ splice buffer 0 (head ++ count) =
-        c .put-2 .ensures ∙
-        ap (λ b. placed b 3 count) (c .put .ensures ∙ ap (placed buffer 0) (c .record-head .ensures)) ∙
-        placed-more buffer 0 head count room
+    c .put-2 .ensures ∙
+    ap (λ b. placed b 3 count) (c .put .ensures ∙ ap (placed buffer 0) (c .record-head .ensures)) ∙
+    placed-more buffer 0 head count room
     in let three : c .put-slice .last .buffer ≡ splice buffer 0 ((head ++ count) ++ encodeItems is) =
-        c .put-slice .ensures ∙
-        ap (λ b. splice b 4 (encodeItems is)) two ∙ splice-more buffer 0 (head ++ count) (encodeItems is) (omega arith)
+    c .put-slice .ensures ∙
+    ap (λ b. splice b 4 (encodeItems is)) two ∙ splice-more buffer 0 (head ++ count) (encodeItems is) (omega arith)
     in let same : (head ++ count) ++ encodeItems is ≡ encodeRequest is =
-        ap₂ (λ n k. be16 (1 + n) ++ (version ∷ k ∷ encodeItems is)) (s .1) (sym (length-map (c .args .items .now) itemMeaning))
+    ap₂ (λ n k. be16 (1 + n) ++ (version ∷ k ∷ encodeItems is)) (s .1) (sym (length-map (c .args .items .now) itemMeaning))
     in let fits : length (encodeRequest is) ≤ length buffer = omega (arith, request-length is, s .1)
     in let len : 3 + c .in-Some .size ≡ length (encodeRequest is) = omega (arith, request-length is, s .1)
     in written-done (isList is) (encodeRequest is) buffer _ _ (s .0) fits len
