@@ -12,7 +12,13 @@ use Rattle.std.proofs.shelf.Ways.{tells}
 use Rattle.std.specs.Options.{mapped}
 use Rattle.std.specs.declared.option.Option.{Option}
 use Rattle.std.specs.declared.option.Option.the-variants.{Some, None}
+use Rattle.std.specs.Vec.{made}
+use Rattle.std.specs.declared.result.Result.{Result}
+use Rattle.std.specs.declared.result.Result.the-variants.{Ok, Err}
+use Rattle.model.specs.declared.refusal.Refusal.{Refusal}
+use Rattle.model.specs.declared.refusal.Refusal.the-variants.{Malformed, NoRoom}
 use Rattle.model.specs.Items.{Item, compare, read, write}
+use Rattle.model.specs.Written.{written}
 use Rattle.model.specs.ItemFormat.{encodeItem, encodeItems, encodeList, isItem, areItems, isList, decodeItem, decodeFields, decodeItems, decodeList, thenItems}
 use Rattle.model.specs.Requests.{encodeRequest, decodeRequest}
 use Rattle.model.specs.RoundTrips.{Request-reads-back}
@@ -57,3 +63,25 @@ request-back is h =
     let back = list-back is h
     in let j = joined16 (1 + length (encodeList is))
     in grind (arith, tells)
+
+-- ## What a writer left reads back
+
+pub written-take :
+    (ok : Bool) (bs buffer after : List ℕ) (r : Result ℕ Refusal) →
+    (r, after) ≡ written ok bs buffer →
+    made r (λ n. (ok ≡ true) × (take n after ≡ bs))
+written-take true bs buffer after (Ok n) e = go (ltb (length buffer) (length bs)) e
+  where
+    go :
+        (b : Bool) →
+        _≡_ {A = Result ℕ Refusal × List ℕ} (Ok n, after) (cond b (Err NoRoom, buffer) (Ok (length bs), bs ++ drop (length bs) buffer)) →
+        (true ≡ true) × (take n after ≡ bs)
+    go true e = let f : Ok n ≡ Err NoRoom = ap (λ p. p .0) e in let z : _≡_ {A = ℕ} 0 1 = cc in absurd (omega arith)
+    go false e =
+        let f : Ok n ≡ Ok (length bs) = ap (λ p. p .0) e
+        in let size : n ≡ length bs = cc
+        in (refl, ap₂ take size (ap (λ p. p .1) e) ∙ take-at bs (drop (length bs) buffer) (length bs) refl)
+written-take false bs buffer after (Ok n) e =
+    let f : Ok n ≡ Err Malformed = ap (λ p. p .0) e in let z : _≡_ {A = ℕ} 0 1 = cc in absurd (omega arith)
+written-take true bs buffer after (Err x) e = tt
+written-take false bs buffer after (Err x) e = tt

@@ -1,3 +1,4 @@
 mod Puts
 mod Sizing
 mod Putting
+mod Again

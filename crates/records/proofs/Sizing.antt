@@ -111,3 +111,16 @@ extent-some all n size count e = go (isList all) e
         _≡_ {A = Option Extent} (Some (record { count = n; size = size })) (cond b (Some (record { count = length all; size = length (encodeList all) })) None)
     go true e = let s : size ≡ length (encodeList all) = cc in ap₂ (λ k m. Some (record { count = k; size = m })) count s
     go false e = cc
+
+pub extent-sized :
+    (all : List PlainItem) (x : Extent) →
+    Some x ≡ listExtent all →
+    (isList all ≡ true) × (x .count ≡ length all) × (x .size ≡ length (encodeList all))
+extent-sized all x e = go (isList all) e
+  where
+    go :
+        (b : Bool) →
+        _≡_ {A = Option Extent} (Some x) (cond b (Some (record { count = length all; size = length (encodeList all) })) None) →
+        (b ≡ true) × (x .count ≡ length all) × (x .size ≡ length (encodeList all))
+    go true e = (refl, cc, cc)
+    go false e = let z : _≡_ {A = ℕ} 0 1 = cc in absurd (omega arith)

@@ -2,7 +2,7 @@
 
 pub mod item;
 pub mod items;
-mod lists;
+pub mod lists;
 pub mod record;
 pub mod request;
 pub mod writer;

@@ -6,7 +6,12 @@ use mathlib.Core.List.{List, [], _∷_, _++_, map}
 use lib.ListN.{length, drop, length-map}
 use Rattle.model.specs.Bytes.{splice, placed}
 use Rattle.model.specs.ItemFormat.{be16, encodeItems, isList}
-use Rattle.model.specs.Requests.{encodeRequest, version}
+use Rattle.std.specs.declared.result.Result.{Result}
+use Rattle.std.specs.declared.result.Result.the-variants.{Ok}
+use Rattle.model.specs.declared.refusal.Refusal.{Refusal}
+use Rattle.model.specs.Requests.{encodeRequest, decodeRequest, version}
+use Rattle.model.specs.Written.{written}
+use Rattle.model.proofs.ReadsBack.{request-back, written-take}
 use Rattle.model.proofs.RequestLaws.{list-sized, list-items, list-few, list-bound, request-length, written-short, written-done}
 use Rattle.model.proofs.Splices.{splice-start, splice-more, placed-more, length-splice}
 use Rattle.records.specs.Meaning.{itemMeaning}
@@ -23,7 +28,7 @@ returns-then-buffer-size c =
     let is = map itemMeaning (c .args .items .now)
     in let s = list-sized is _ (c .in-Some .ensures tt)
     in let short : length (c .args .buffer .now) < length (encodeRequest is) = omega (arith, request-length is, s .1)
-    in written-short _ _ _ (s .0) short
+    in record { value = written-short _ _ _ (s .0) short; back = tt }
 
 pub cast-size : need.cast-size
 cast-size c =
@@ -57,5 +62,12 @@ returns c =
     ap₂ (λ n k. be16 (1 + n) ++ (version ∷ k ∷ encodeItems is)) (s .1) (sym (length-map (c .args .items .now) itemMeaning))
     in let fits : length (encodeRequest is) ≤ length buffer = omega (arith, request-length is, s .1)
     in let len : 3 + c .in-Some .size ≡ length (encodeRequest is) = omega (arith, request-length is, s .1)
-    in written-done (isList is) (encodeRequest is) buffer _ _ (s .0) fits len
+    in let value : _≡_ {A = Result ℕ Refusal × List ℕ} (Ok (3 + c .in-Some .size), c .put-slice .last .buffer) (written (isList is) (encodeRequest is) buffer) =
+    written-done (isList is) (encodeRequest is) buffer (c .put-slice .last .buffer) _ (s .0) fits len
     (three ∙ ap (splice buffer 0) same ∙ splice-start buffer (encodeRequest is))
+    in record {
+      value = value;
+      back =
+          ap decodeRequest (written-take _ (encodeRequest is) buffer (c .put-slice .last .buffer) (Ok (3 + c .in-Some .size)) value .1) ∙
+          request-back is (s .0);
+    }
