@@ -17,12 +17,11 @@ use Rattle.model.specs.declared.party.Party.the-variants.{Node, Coordinator, R
 use Rattle.model.specs.declared.vote.Vote.{Vote}
 use Rattle.model.specs.declared.vote.Vote.the-variants.{Yes, Busy, Forced, Mismatch, Full}
 use Rattle.model.specs.Items.{Item}
-use Rattle.model.specs.Numbers.{mostReads}
 use Rattle.model.specs.Votes.{voteNumber, voteOf}
 use Rattle.model.specs.Messages.{Body, Message, prepare, voted, finish, inquiry, reply, query, settled}
 use Rattle.model.specs.ItemFormat.{be16, encodeList, decodeList, isList}
 use Rattle.model.specs.Requests.{encodeRecord, isRecord}
-use Rattle.model.specs.MessageFormat.{kindOf, partyKind, partyNumber, encodeBody, encodeHeader, encodeMessage, isBody, flagByte, decodeParty, decodeFlag, decodePrepare, decodeVoted, votedWith, thenVote, decodeEmpty, decodeBody, decodeMessage, thenMessage, numberAt, partyAt, tidAt, senderAt, receiverAt, bodyAt, kindAt}
+use Rattle.model.specs.MessageFormat.{kindOf, partyKind, partyNumber, encodeBody, encodeHeader, encodeMessage, isBody, readsLimit, flagByte, decodeParty, decodeFlag, decodePrepare, decodeVoted, votedWith, thenVote, decodeEmpty, decodeBody, decodeMessage, thenMessage, numberAt, partyAt, tidAt, senderAt, receiverAt, bodyAt, kindAt}
 use Rattle.model.specs.RoundTrips.{Bytes, Message-writes-again}
 use Rattle.model.proofs.WritesAgain.{rung, bytes-drop, high16, low16, CountedFrom, list-again, record-again}
 
@@ -87,7 +86,7 @@ voted-again (n ∷ rest) =
     go : (o : Option Vote) → VoteFrom n o → BodyFrom 2 (n ∷ rest) (thenVote o (λ v. votedWith rest v))
     go None f = tt
     go (Some v) f =
-        rung (BodyFrom 2 (n ∷ rest)) (leb (length rest) (cond (eqb (voteNumber v) 0) mostReads 0)) (Some (voted v rest)) None
+        rung (BodyFrom 2 (n ∷ rest)) (leb (length rest) (readsLimit v)) (Some (voted v rest)) None
         (λ e. (e, refl, ap (λ k. k ∷ rest) f))
         (λ e. tt)
 

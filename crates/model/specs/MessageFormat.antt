@@ -71,10 +71,14 @@ encodeBody (reply b) = flagByte b ∷ []
 encodeBody query = []
 encodeBody settled = []
 
--- whether a body has bytes at all: read bytes come only with a yes
+-- how many read bytes a vote may carry: they come only with a yes
+abbrev pub readsLimit : Vote → ℕ
+readsLimit v = cond (eqb (voteNumber v) 0) mostReads 0
+
+-- whether a body has bytes at all
 abbrev pub isBody : Body → Bool
 isBody (prepare ps is) = isList is
-isBody (voted v bs) = leb (length bs) (cond (eqb (voteNumber v) 0) mostReads 0)
+isBody (voted v bs) = leb (length bs) (readsLimit v)
 isBody (finish b) = true
 isBody inquiry = true
 isBody (reply b) = true
@@ -106,7 +110,7 @@ decodePrepare bs =
     cond (ltb (length bs) 1) None (mapped (λ is. prepare (getD bs 0 0) is) (decodeList (drop 1 bs)))
 
 abbrev pub votedWith : List ℕ → Vote → Option Body
-votedWith bs v = cond (leb (length bs) (cond (eqb (voteNumber v) 0) mostReads 0)) (Some (voted v bs)) None
+votedWith bs v = cond (leb (length bs) (readsLimit v)) (Some (voted v bs)) None
 
 abbrev pub thenVote : Option Vote → (Vote → Option Body) → Option Body
 thenVote None more = None
