@@ -56,7 +56,11 @@ pub fn read_header(bytes: &[u8]) -> Option<Header>
     let Some(receiver) = party(bytes[RECEIVER], to, tid) else {
         return None;
     };
-    Some(Header { tid, sender, receiver })
+    Some(Header {
+        tid,
+        sender,
+        receiver,
+    })
 }
 
 /// The bytes of a party.

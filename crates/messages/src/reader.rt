@@ -69,7 +69,10 @@ fn read_prepare<'a>(bytes: &'a [u8]) -> Option<Body<'a>>
     let participants = bytes[0];
     let (_, list) = bytes.split_at(1);
     match Items::parse(list) {
-        Ok(items) => Some(Body::Prepare { participants, items }),
+        Ok(items) => Some(Body::Prepare {
+            participants,
+            items,
+        }),
         Err(_) => None,
     }
 }
