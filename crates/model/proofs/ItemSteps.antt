@@ -1,5 +1,5 @@
 -- One step of reading an item list: what is left behind its first item.
-use Prim.Native.Nat.{ℕ, zero, suc, _-_, _<_}
+use Prim.Native.Nat.{ℕ, zero, suc, _-_, _<_, _≤_}
 use native.Mathlib.Omega.{arith}
 use mathlib.Core.Path.{_≡_, refl, ap, sym, _∙_}
 use mathlib.Core.Bool.{Bool, true, false, cond}
@@ -35,6 +35,18 @@ take-more zero bs i rest h e = absurd (omega arith)
 take-more (suc n) bs i rest h e =
     let p : suc n - 1 ≡ n = omega arith
     in ap (λ o. thenTake o (λ r. takeItems n r)) e ∙ ap (λ m. i ∷ takeItems m rest) (sym p)
+
+-- no more than were asked for
+pub take-bound : (n : ℕ) (bs : List ℕ) → length (takeItems n bs) ≤ n
+unfolding takeItems
+take-bound zero bs = omega arith
+take-bound (suc n) bs = go (decodeItem bs) (λ rest. take-bound n rest)
+  where
+    go :
+        (o : Option (Item × List ℕ)) →
+        ((rest : List ℕ) → length (takeItems n rest) ≤ n) → length (thenTake o (λ rest. takeItems n rest)) ≤ suc n
+    go None f = omega arith
+    go (Some (i, rest)) f = let h = f rest in omega arith
 
 -- ## The whole list
 

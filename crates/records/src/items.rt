@@ -40,6 +40,17 @@ impl<'a> Items<'a> {
         }
     }
 
+    /// How many items are still to come.
+    pub fn len(self) -> usize
+        ensures { λ r. ⌜ r ≡ length (itemsMeaning (self .entry)) ⌝ }
+    {
+        let mut count = 0;
+        for _item in self {
+            count += 1;
+        }
+        count
+    }
+
     /// Takes the next item off, where there is one.
     pub fn next_item(&mut self) -> Option<Item<'a>>
         ensures { λ r. ⌜ ItemStep (now (self .entry)) r (now (self .exit)) ⌝ }
