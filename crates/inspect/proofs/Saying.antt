@@ -3,7 +3,11 @@ use Prim.Native.Nat.{ℕ}
 use mathlib.Core.Path.{_≡_, refl, sym, ap, _∙_}
 use mathlib.Core.List.{List, [], _∷_, _++_, append-assoc, append-nil}
 use lib.Chars.{codes}
+use Rattle.std.specs.Options.{okOr}
 use Rattle.std.specs.Written.{decimal}
+use Rattle.std.specs.declared.option.Option.{Option}
+use Rattle.std.specs.declared.option.Option.the-variants.{Some, None}
+use Rattle.std.specs.declared.result.Result.the-variants.{Ok}
 use Rattle.model.specs.Items.{Item}
 use Rattle.inspect.specs.Words.{bytesText, itemText, itemsText}
 
@@ -58,3 +62,17 @@ pub said-three :
     c ≡ b ++ three →
     c ≡ start ++ ((one ++ two) ++ three)
 said-three start one two three a b c p q r = said-two start (one ++ two) three b c (said-two start one two a b p q) r
+
+pub said-four :
+    (start one two three four a b c d : List ℕ) →
+    a ≡ start ++ one →
+    b ≡ a ++ two →
+    c ≡ b ++ three →
+    d ≡ c ++ four →
+    d ≡ start ++ (((one ++ two) ++ three) ++ four)
+said-four start one two three four a b c d p q r s =
+    said-two start ((one ++ two) ++ three) four c d (said-three start one two three a b c p q r) s
+
+pub some-from-ok : {X E : Type 0} (x : X) (o : Option X) (e : E) → Ok x ≡ okOr o e → o ≡ Some x
+some-from-ok x None e h = cc
+some-from-ok x (Some y) e h = cc

@@ -1,17 +1,20 @@
 -- What is said of a record.
 use Prim.Native.Nat.{ℕ}
-use mathlib.Core.Bool.{Bool, cond}
+use mathlib.Core.Bool.{Bool, true, cond, _||_}
 use mathlib.Core.List.{List, [], _∷_, _++_}
 use lib.Chars.{codes}
 use lib.ListN.{length}
+use Rattle.std.specs.Options.{isSome}
 use Rattle.std.specs.Written.{decimal}
 use Rattle.std.specs.declared.option.Option.{Option}
 use Rattle.std.specs.declared.option.Option.the-variants.{Some, None}
 use Rattle.model.specs.declared.party.Party.{Party}
 use Rattle.model.specs.declared.party.Party.the-variants.{Node, Coordinator, Recovery}
+use Rattle.model.specs.declared.refusal.Refusal.the-variants.{Malformed}
 use Rattle.model.specs.declared.vote.Vote.{Vote}
 use Rattle.model.specs.Items.{Item, compare, read, write}
 use Rattle.model.specs.Messages.{Body, Message, prepare, voted, finish, inquiry, reply, query, settled}
+use Rattle.model.specs.Refusals.{refusalNumber}
 use Rattle.model.specs.Votes.{voteNumber}
 use Rattle.model.specs.Requests.{decodeRequest}
 use Rattle.model.specs.MessageFormat.{decodeMessage}
@@ -44,11 +47,11 @@ itemsText (i ∷ is) = itemText i ++ itemsText is
 
 -- ## Records
 
-abbrev pub againText : List ℕ
-againText = codes "written again: the same bytes\n"
+abbrev pub againText : Bool → List ℕ
+againText same = cond same (codes "written again: the same bytes\n") (codes "written again: other bytes\n")
 
 abbrev pub requestText : List Item → List ℕ
-requestText is = ((codes "request, items: " ++ (decimal (length is) ++ codes "\n")) ++ itemsText is) ++ againText
+requestText is = ((codes "request, items: " ++ (decimal (length is) ++ codes "\n")) ++ itemsText is) ++ againText true
 
 abbrev pub kindName : Body → List ℕ
 kindName (prepare ps is) = codes "prepare"
@@ -91,20 +94,22 @@ headerText m =
     partyText (m .receiver)
 
 abbrev pub messageText : Message → List ℕ
-messageText m = (headerText m ++ bodyText (m .body)) ++ againText
+messageText m = (headerText m ++ bodyText (m .body)) ++ againText true
 
 -- ## Lines
 
+abbrev pub maybeText : {A : Type 0} → (A → List ℕ) → Option A → List ℕ
+maybeText say None = []
+maybeText say (Some x) = say x
+
 -- a line that is no record is answered by the number of the refusal
 abbrev pub refusedText : List ℕ
-refusedText = codes "1\n"
+refusedText = decimal (refusalNumber Malformed) ++ codes "\n"
 
 -- the bytes may be a request, a message, or both
 abbrev pub recordText : Option (List Item) → Option Message → List ℕ
-recordText None None = refusedText
-recordText None (Some m) = messageText m
-recordText (Some is) None = requestText is
-recordText (Some is) (Some m) = requestText is ++ messageText m
+recordText is m =
+    cond (isSome is || isSome m) (maybeText requestText is ++ maybeText messageText m) refusedText
 
 abbrev pub digitsText : Option (List ℕ) → List ℕ
 digitsText None = refusedText

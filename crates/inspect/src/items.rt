@@ -37,15 +37,30 @@ pub fn say_item(out: &mut String, item: &Item<'_>) -> fmt::Result
     ensures { λ r. ⌜ made r (λ _. string-bytes (now (out .exit)) ≡ string-bytes (now (out .entry)) ++ itemText (itemMeaning (now (item .entry)))) ⌝ }
 {
     match item {
-        Item::Compare { node, address, data } => {
+        Item::Compare {
+            node,
+            address,
+            data,
+        } => {
             say_data(out, "compare", *node, *address, data)?;
             Ok(())
         }
-        Item::Read { node, address, length } => {
-            write!(out, "  read node {node}, address {address}, length {length}\n")?;
+        Item::Read {
+            node,
+            address,
+            length,
+        } => {
+            write!(
+                out,
+                "  read node {node}, address {address}, length {length}\n"
+            )?;
             Ok(())
         }
-        Item::Write { node, address, data } => {
+        Item::Write {
+            node,
+            address,
+            data,
+        } => {
             say_data(out, "write", *node, *address, data)?;
             Ok(())
         }

@@ -95,3 +95,12 @@ written-done ok bs buffer after n e fits len holds =
     in ap₂ pair len holds ∙
     sym (ap (λ b. written b bs buffer) e ∙
     ap (λ b. cond {A = Result ℕ Refusal × List ℕ} b (Err NoRoom, buffer) (Ok (length bs), bs ++ drop (length bs) buffer)) (le-ltb _ _ fits))
+
+-- a value that has a form, and room, is not refused
+pub written-fits :
+    (ok : Bool) (bs buffer after : List ℕ) (x : Refusal) →
+    ok ≡ true → length bs ≤ length buffer → (Err x, after) ≡ written ok bs buffer → ⊥
+written-fits ok bs buffer after x good fits e =
+    let done = written-done ok bs buffer (bs ++ drop (length bs) buffer) (length bs) good fits refl refl
+    in let clash : Err x ≡ Ok (length bs) = ap (λ p. p .0) (e ∙ sym done)
+    in let z : _≡_ {A = ℕ} 0 1 = cc in omega arith
