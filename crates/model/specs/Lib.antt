@@ -7,3 +7,15 @@ pub mod ItemFormat
 pub mod Requests
 pub mod MessageFormat
 pub mod Answers
+pub mod Lists
+pub mod Cells
+pub mod Ranges
+pub mod Participants
+pub mod Journal
+pub mod Writes
+pub mod Node
+pub mod Handling
+pub mod Cluster
+pub mod Making
+pub mod Calls
+pub mod Samples

@@ -1,0 +1,2 @@
+mod Computing
+mod Examples
