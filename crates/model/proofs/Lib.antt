@@ -1,2 +1,3 @@
 mod Computing
 mod Examples
+mod Marked

@@ -10,6 +10,10 @@ use Rattle.std.specs.shelf.Text.{sameBytes}
 abbrev pub Cell : Type 0
 Cell = ℕ
 
+-- what stands where there is no cell
+abbrev pub noCell : Cell
+noCell = 0
+
 -- the bytes that cells show
 abbrev pub shown : List Cell → List ℕ
 shown cs = cs

@@ -18,4 +18,10 @@ pub mod Handling
 pub mod Cluster
 pub mod Making
 pub mod Calls
+pub mod Deeds
+pub mod History
+pub mod SerialRun
+pub mod Laws
 pub mod Samples
+pub mod MarkedCases
+pub mod Progress

@@ -138,6 +138,10 @@ pub record Left : Type 0 where
   pub cells : List Cell
   pub outcomes : List (Option Bool)
 
+-- where no power was lost
+abbrev pub noneLeft : Left
+noneLeft = record { cells = []; outcomes = [] }
+
 -- node q has power again
 abbrev pub recovering : ℕ → Node → Left → Node
 recovering q n left =

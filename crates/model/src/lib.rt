@@ -5,4 +5,5 @@ pub mod condition;
 pub mod outcome;
 pub mod party;
 pub mod refusal;
+pub mod sanity;
 pub mod vote;
