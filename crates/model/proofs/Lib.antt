@@ -1,3 +1,5 @@
 mod Computing
 mod Examples
 mod Marked
+mod Sampled
+mod Progressing

@@ -1,10 +1,18 @@
 //! Functions without code of their own, whose contracts are theorems about the rules.
 
 ghost use Rattle.model.specs.MarkedCases.{MarkedCases};
+ghost use Rattle.model.specs.Progress.{SomeHistoryProgresses};
 
 /// The rules answer as they must in eight cases at their edges.
 pub fn marked_cases_stand() -> u8
     ensures { λ _. ⌜ MarkedCases ⌝ }
+{
+    0
+}
+
+/// The laws speak of something: in some history a minitransaction is committed, applied and collected.
+pub fn some_history_progresses() -> u8
+    ensures { λ _. ⌜ SomeHistoryProgresses ⌝ }
 {
     0
 }
