@@ -3,3 +3,4 @@ mod Examples
 mod Marked
 mod Sampled
 mod Progressing
+pub mod Leading

@@ -1,14 +1,19 @@
 -- Durable edits of one node as values, and what a list of them, or the first few, makes of its stores.
 use Prim.Native.Nat.{ℕ}
-use mathlib.Core.Bool.{Bool, cond}
+use mathlib.Core.Bool.{Bool, cond, _&&_, _||_, not}
 use mathlib.Core.List.{List, [], _∷_}
 use lib.Dec.{ltb}
 use lib.ListN.{take}
+use Rattle.std.specs.declared.option.Option.{Option}
+use Rattle.std.specs.declared.option.Option.the-variants.{Some, None}
+use Rattle.model.specs.declared.refusal.Refusal.{Refusal}
+use Rattle.model.specs.declared.refusal.Refusal.the-variants.{NoRoom, NotReady, OutOfRange}
 use Rattle.model.specs.Numbers.{unlimited}
 use Rattle.model.specs.Items.{Item}
-use Rattle.model.specs.Cells.{Cell}
-use Rattle.model.specs.Ranges.{putItem}
-use Rattle.model.specs.Journal.{Journal, added, forcedIn, noted, dropped, flushed, pointed}
+use Rattle.model.specs.ItemFormat.{span}
+use Rattle.model.specs.Cells.{Cell, within}
+use Rattle.model.specs.Ranges.{isWrite, addressOf, putItem}
+use Rattle.model.specs.Journal.{Journal, isFull, isForced, isForcedFull, hasEntry, isEmpty, added, forcedIn, noted, dropped, flushed, pointed}
 
 -- what lasts of a node: its memory's cells and its journal
 pub record Stores : Type 0 where
@@ -42,6 +47,17 @@ applied flushMemory s = s
 applied flushJournal s = withJournal s (flushed (s .journal))
 applied (point n) s = withJournal s (pointed (s .journal) n)
 applied dropOldest s = withJournal s (dropped (s .journal))
+
+-- Why a store refuses a write, if it does; what is refused alters nothing. (No rule makes such a write in any history.)
+abbrev pub refusalOf : Write → Stores → Option Refusal
+refusalOf (addEntry tid ps ws) s = cond (isFull (s .journal)) (Some NoRoom) None
+refusalOf (force tid) s = cond (not (isForced (s .journal) tid) && isForcedFull (s .journal)) (Some NoRoom) None
+refusalOf (note tid b) s = cond (hasEntry (s .journal) tid) None (Some NotReady)
+refusalOf (put i) s = cond (not (isWrite i) || within (s .cells) (addressOf i) (span i)) None (Some OutOfRange)
+refusalOf flushMemory s = None
+refusalOf flushJournal s = None
+refusalOf (point n) s = None
+refusalOf dropOldest s = cond (isEmpty (s .journal)) (Some NotReady) None
 
 unfoldable pub appliedAll : List Write → Stores → Stores
 appliedAll [] s = s
