@@ -22,13 +22,13 @@ use Rattle.model.specs.Making.{making}
 use Rattle.model.specs.Samples.{sampleStores, twoStores, twoNodes, asks, after, answers, historyOf}
 use Rattle.model.proofs.Computing.{every-rule}
 
--- ## The sample session
+-- ## The first lines
 
 -- a vote is missing, and nothing shows yet
-session : answers twoNodes (opens (0 ∷ 8 ∷ 1 ∷ 1 ∷ 3 ∷ 0 ∷ 0 ∷ 5 ∷ 1 ∷ 24 ∷ []) ∷ delivers 0 255 ∷ decides 1 128 ∷ shows 0 5 1 ∷ [])
+first-lines : answers twoNodes (opens (0 ∷ 8 ∷ 1 ∷ 1 ∷ 3 ∷ 0 ∷ 0 ∷ 5 ∷ 1 ∷ 24 ∷ []) ∷ delivers 0 255 ∷ decides 1 128 ∷ shows 0 5 1 ∷ [])
     ≡ (opened 1 ∷ delivered true ∷ refused NotReady ∷ shown (0 ∷ []) ∷ [])
 unfolding every-rule
-session = refl
+first-lines = refl
 
 -- ## A commit
 

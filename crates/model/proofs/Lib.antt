@@ -1,6 +1,6 @@
 mod Computing
 mod Examples
-mod Marked
+mod Edges
 mod Sampled
 mod Progressing
 pub mod Leading

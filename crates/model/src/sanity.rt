@@ -1,11 +1,11 @@
 //! Functions without code of their own, whose contracts are theorems about the rules.
 
-ghost use Rattle.model.specs.MarkedCases.{MarkedCases};
+ghost use Rattle.model.specs.EdgeCases.{EdgeCases};
 ghost use Rattle.model.specs.Progress.{SomeHistoryProgresses};
 
 /// The rules answer as they must in eight cases at their edges.
-pub fn marked_cases_stand() -> u8
-    ensures { λ _. ⌜ MarkedCases ⌝ }
+pub fn edge_cases_stand() -> u8
+    ensures { λ _. ⌜ EdgeCases ⌝ }
 {
     0
 }
