@@ -1,23 +1,27 @@
 -- Small histories run by computing: a wrong rule gives another answer.
-use Prim.Native.Nat.{ℕ}
+use Prim.Native.Nat.{ℕ, zero, suc}
 use mathlib.Core.Path.{_≡_, refl}
 use mathlib.Core.Bool.{Bool, true, false}
-use mathlib.Core.List.{List, [], _∷_, _++_}
-use lib.ListN.{getD}
+use mathlib.Core.List.{List, [], _∷_, _++_, map}
+use lib.ListN.{getD, replicate}
 use Rattle.std.specs.declared.option.Option.{Option}
 use Rattle.std.specs.declared.option.Option.the-variants.{Some, None}
 use Rattle.model.specs.declared.refusal.Refusal.{Refusal}
 use Rattle.model.specs.declared.refusal.Refusal.the-variants.{Malformed, Missing, WrongCondition, OutOfRange, NoRoom, NotReady, Exhausted}
 use Rattle.model.specs.declared.vote.Vote.{Vote}
 use Rattle.model.specs.declared.vote.Vote.the-variants.{Yes, Busy, Forced, Mismatch, Full}
+use Rattle.model.specs.declared.party.Party.{Party}
+use Rattle.model.specs.declared.party.Party.the-variants.{Node as NodeParty}
 use Rattle.model.specs.Items.{Item, compare, read, write}
+use Rattle.model.specs.Messages.{Message, voted}
+use Rattle.model.specs.Handling.{Reaction, lost, taken, reaction, withoutEffect}
 use Rattle.model.specs.Answers.{Answer, done, opened, delivered, decided, recovering, shown, refused, powerFailed}
-use Rattle.model.specs.Calls.{Call, opens, delivers, loses, decides, leaves, recovers, rules, stops, cuts, wakes, inquires, resumes, settles, queries, collects, shows}
+use Rattle.model.specs.Calls.{Call, opens, delivers, loses, decides, leaves, recovers, rules, stops, cuts, wakes, inquires, resumes, settles, queries, collects, shows, step}
 use Rattle.model.specs.SerialRun.{serialOrder, serialTurn, serialMemories, memoryAt}
 use Rattle.model.specs.Cells.{part}
 use Rattle.model.specs.Journal.{emptyJournal}
-use Rattle.model.specs.Node.{cellsOf, journalOf}
-use Rattle.model.specs.Cluster.{nodeAt}
+use Rattle.model.specs.Node.{Node, cellsOf, journalOf}
+use Rattle.model.specs.Cluster.{Cluster, nodeAt}
 use Rattle.model.specs.Making.{making}
 use Rattle.model.specs.Samples.{sampleStores, twoStores, twoNodes, asks, after, answers, historyOf}
 use Rattle.model.proofs.Computing.{every-rule}
@@ -295,3 +299,151 @@ show-order : answers twoNodes (shows 2 0 0 ∷ shows 0 64 0 ∷ shows 0 60 17 �
     ∷ shown (0 ∷ 0 ∷ 0 ∷ 0 ∷ 0 ∷ 0 ∷ 0 ∷ 0 ∷ 0 ∷ 0 ∷ 0 ∷ 0 ∷ 0 ∷ 0 ∷ 0 ∷ 0 ∷ []) ∷ done ∷ refused WrongCondition ∷ [])
 unfolding every-rule
 show-order = refl
+
+-- ## Three nodes
+
+threeNodes : Cluster
+threeNodes = making (sampleStores ∷ sampleStores ∷ sampleStores ∷ [])
+
+-- all three vote yes; node 0 loses power before the finish, and needs a yes of both others
+three-restart : answers threeNodes
+    (asks (write 0 5 (6 ∷ []) ∷ write 1 5 (7 ∷ []) ∷ write 2 5 (8 ∷ []) ∷ []) ∷ delivers 0 255 ∷ delivers 0 255 ∷ delivers 0 255 ∷ delivers 0 255 ∷ delivers 0 255 ∷ delivers 0 255
+    ∷ cuts 0 ∷ wakes 0 ∷ inquires 0 1 2 ∷ delivers 0 255 ∷ delivers 0 255 ∷ resumes 0 255 ∷ inquires 0 1 1 ∷ inquires 0 1 1 ∷ delivers 0 255 ∷ delivers 1 255 ∷ resumes 0 255 ∷ shows 0 5 1
+    ∷ delivers 0 255 ∷ delivers 0 255 ∷ decides 1 128 ∷ delivers 0 255 ∷ delivers 0 255 ∷ delivers 0 255 ∷ shows 2 5 1 ∷ [])
+    ≡ (opened 1 ∷ delivered true ∷ delivered true ∷ delivered true ∷ delivered true ∷ delivered true ∷ delivered true
+    ∷ done ∷ done ∷ done ∷ delivered true ∷ delivered true ∷ refused NotReady ∷ done ∷ done ∷ delivered true ∷ delivered true ∷ done ∷ shown (6 ∷ [])
+    ∷ delivered true ∷ delivered false ∷ decided true (Yes ∷ Yes ∷ Yes ∷ []) [] ∷ delivered true ∷ delivered true ∷ delivered true ∷ shown (8 ∷ []) ∷ [])
+unfolding every-rule threeNodes
+three-restart = refl
+
+-- a no of one is enough, whatever the others say
+three-aborts : answers threeNodes
+    (asks (write 0 5 (6 ∷ []) ∷ write 1 5 (7 ∷ []) ∷ write 2 5 (8 ∷ []) ∷ []) ∷ delivers 0 255 ∷ delivers 0 255
+    ∷ recovers 0 1 ∷ delivers 3 255 ∷ delivers 3 255 ∷ delivers 3 255 ∷ delivers 3 255 ∷ delivers 3 255 ∷ rules 1 ∷ delivers 3 255 ∷ rules 1
+    ∷ delivers 3 255 ∷ delivers 3 255 ∷ delivers 3 255 ∷ shows 0 5 1 ∷ collects 0 255 ∷ collects 1 255 ∷ collects 2 255 ∷ [])
+    ≡ (opened 1 ∷ delivered true ∷ delivered true
+    ∷ recovering 1 ∷ delivered true ∷ delivered true ∷ delivered true ∷ delivered true ∷ delivered true ∷ refused NotReady ∷ delivered true ∷ done
+    ∷ delivered true ∷ delivered true ∷ delivered true ∷ shown (0 ∷ []) ∷ done ∷ done ∷ refused Missing ∷ [])
+unfolding every-rule threeNodes
+three-aborts = refl
+
+-- ## Messages that come late
+
+-- a reply to a node that is up, and a finish to one that is recovering, are lost
+late : answers (after twoNodes (voting ++ (decides 1 128 ∷ cuts 0 ∷ wakes 0 ∷ [])))
+    (delivers 0 255 ∷ inquires 0 1 1 ∷ inquires 0 1 1 ∷ delivers 1 255 ∷ delivers 1 255 ∷ delivers 1 255 ∷ resumes 0 255 ∷ delivers 1 255 ∷ shows 0 5 1 ∷ [])
+    ≡ (delivered false ∷ done ∷ done ∷ delivered true ∷ delivered true ∷ delivered true ∷ done ∷ delivered false ∷ shown (6 ∷ []) ∷ [])
+unfolding every-rule exchange voting
+late = refl
+
+-- two committed; a settled about the first does not speak for the second
+two-committed : List Call
+two-committed =
+    committing ++ (asks (write 0 5 (1 ∷ []) ∷ read 1 0 1 ∷ []) ∷ delivers 0 255 ∷ delivers 0 255 ∷ delivers 0 255 ∷ delivers 0 255 ∷ decides 2 1 ∷ delivers 0 255 ∷ delivers 0 255 ∷ settles 0 255 ∷ settles 1 255 ∷ [])
+
+one-by-one : answers (after twoNodes two-committed)
+    (queries 0 1 ∷ queries 0 1 ∷ delivers 0 255 ∷ delivers 0 255 ∷ delivers 0 255 ∷ collects 0 255 ∷ collects 0 255 ∷ delivers 0 255 ∷ collects 0 255
+    ∷ queries 0 1 ∷ delivers 0 255 ∷ delivers 0 255 ∷ cuts 0 ∷ wakes 0 ∷ resumes 0 255 ∷ collects 0 255
+    ∷ queries 0 1 ∷ delivers 0 255 ∷ delivers 0 255 ∷ collects 0 255 ∷ collects 0 255 ∷ shows 0 5 1 ∷ [])
+    ≡ (done ∷ done ∷ delivered true ∷ delivered true ∷ delivered true ∷ done ∷ refused NotReady ∷ delivered true ∷ refused NotReady
+    ∷ done ∷ delivered true ∷ delivered true ∷ done ∷ done ∷ done ∷ refused NotReady
+    ∷ done ∷ delivered true ∷ delivered true ∷ done ∷ refused Missing ∷ shown (1 ∷ []) ∷ [])
+unfolding every-rule exchange voting committing two-committed
+one-by-one = refl
+
+-- a vote that reaches a node is taken without effect while it has power
+stray-vote : Message
+stray-vote = record { tid = 1; sender = NodeParty 1; receiver = NodeParty 0; body = voted Busy [] }
+
+stray : _≡_ {A = List Reaction}
+    (reaction 0 (nodeAt twoNodes 0) stray-vote ∷ reaction 0 (nodeAt (after twoNodes (cuts 0 ∷ wakes 0 ∷ [])) 0) stray-vote ∷ reaction 0 (nodeAt (after twoNodes (cuts 0 ∷ [])) 0) stray-vote ∷ [])
+    (taken (withoutEffect (nodeAt twoNodes 0)) ∷ taken (withoutEffect (nodeAt (after twoNodes (cuts 0 ∷ wakes 0 ∷ [])) 0)) ∷ lost ∷ [])
+unfolding every-rule stray-vote
+stray = refl
+
+-- ## Bytes lost with the power
+
+-- node 0 with power again, its bytes all 99 where they were not flushed, and these outcomes left
+woken : List Call → List (Option Bool) → Cluster
+woken calls left = step (after twoNodes (calls ++ (cuts 0 ∷ []))) (wakes 0) (record { cells = replicate 64 99; outcomes = left }) .1
+
+-- a pending outcome that survived does not spare the writing of the items
+replay-all : answers (woken committing (Some true ∷ [])) (resumes 0 255 ∷ shows 0 5 1 ∷ [])
+    ≡ (done ∷ shown (6 ∷ []) ∷ [])
+unfolding every-rule exchange voting committing woken
+replay-all = refl
+
+-- two writers of one byte, alone on node 0: the later one has the last word
+replay-order : answers
+    (woken (asks (write 0 5 (1 ∷ []) ∷ []) ∷ delivers 0 255 ∷ delivers 0 255 ∷ decides 1 0 ∷ delivers 0 255
+    ∷ asks (write 0 5 (2 ∷ 3 ∷ []) ∷ write 0 6 (4 ∷ []) ∷ []) ∷ delivers 0 255 ∷ delivers 0 255 ∷ decides 2 0 ∷ []) (None ∷ None ∷ []))
+    (resumes 0 255 ∷ shows 0 4 3 ∷ [])
+    ≡ (done ∷ shown (99 ∷ 2 ∷ 4 ∷ []) ∷ [])
+unfolding every-rule woken
+replay-order = refl
+
+-- what lies at or before the pointer is not replayed: nothing but bytes written since may have been lost
+replay-past : answers (woken (committing ++ (settles 0 255 ∷ [])) (Some true ∷ [])) (resumes 0 255 ∷ shows 0 5 1 ∷ [])
+    ≡ (done ∷ shown (99 ∷ []) ∷ [])
+unfolding every-rule exchange voting committing woken
+replay-past = refl
+
+-- ## The bounds
+
+recoveries-full : answers (after twoNodes voting)
+    (recovers 0 1 ∷ recovers 1 1 ∷ recovers 0 1 ∷ recovers 0 1 ∷ recovers 0 1 ∷ stops 2 ∷ recovers 0 1 ∷ [])
+    ≡ (recovering 1 ∷ recovering 2 ∷ recovering 3 ∷ recovering 4 ∷ refused NoRoom ∷ done ∷ recovering 5 ∷ [])
+unfolding every-rule exchange voting
+recoveries-full = refl
+
+-- so many pairs of prepares under way, their coordinators gone
+unfoldable crowds : ℕ → List Call
+crowds zero = []
+crowds (suc n) = crowds n ++ (asks (read 0 0 1 ∷ read 1 0 1 ∷ []) ∷ leaves (suc n) ∷ [])
+
+-- the 32 places are taken: two more, or one more, find no room; one that leaves makes room for one, not for two
+network-full : answers (after twoNodes (crowds 16))
+    (asks (read 0 0 1 ∷ []) ∷ loses 31 ∷ loses 31 ∷ asks (read 0 0 1 ∷ read 1 0 1 ∷ []) ∷ asks (read 0 0 1 ∷ []) ∷ asks (read 0 0 1 ∷ []) ∷ [])
+    ≡ (refused NoRoom ∷ done ∷ refused Missing ∷ refused NoRoom ∷ opened 17 ∷ refused NoRoom ∷ [])
+unfolding every-rule crowds
+network-full = refl
+
+crowds-from-two : List Call
+crowds-from-two =
+    asks (read 0 0 1 ∷ read 1 0 1 ∷ []) ∷ leaves 2 ∷ asks (read 0 0 1 ∷ read 1 0 1 ∷ []) ∷ leaves 3 ∷ asks (read 0 0 1 ∷ read 1 0 1 ∷ []) ∷ leaves 4 ∷ asks (read 0 0 1 ∷ read 1 0 1 ∷ []) ∷ leaves 5
+    ∷ asks (read 0 0 1 ∷ read 1 0 1 ∷ []) ∷ leaves 6 ∷ asks (read 0 0 1 ∷ read 1 0 1 ∷ []) ∷ leaves 7 ∷ asks (read 0 0 1 ∷ read 1 0 1 ∷ []) ∷ leaves 8 ∷ asks (read 0 0 1 ∷ read 1 0 1 ∷ []) ∷ leaves 9
+    ∷ asks (read 0 0 1 ∷ read 1 0 1 ∷ []) ∷ leaves 10 ∷ asks (read 0 0 1 ∷ read 1 0 1 ∷ []) ∷ leaves 11 ∷ asks (read 0 0 1 ∷ read 1 0 1 ∷ []) ∷ leaves 12 ∷ asks (read 0 0 1 ∷ read 1 0 1 ∷ []) ∷ leaves 13
+    ∷ asks (read 0 0 1 ∷ read 1 0 1 ∷ []) ∷ leaves 14 ∷ asks (read 0 0 1 ∷ read 1 0 1 ∷ []) ∷ leaves 15 ∷ asks (read 0 0 1 ∷ read 1 0 1 ∷ []) ∷ leaves 16 ∷ asks (read 0 0 1 ∷ read 1 0 1 ∷ []) ∷ leaves 17
+    ∷ []
+
+-- with the network full a vote still finds the place of its prepare, and a decide waits for room
+decide-waits : answers (after twoNodes (voting ++ crowds-from-two)) (decides 1 128 ∷ loses 0 ∷ decides 1 128 ∷ loses 0 ∷ decides 1 128 ∷ [])
+    ≡ (refused NoRoom ∷ done ∷ refused NoRoom ∷ done ∷ decided true (Yes ∷ Yes ∷ []) (0 ∷ 0 ∷ 0 ∷ []) ∷ [])
+unfolding every-rule exchange voting crowds-from-two
+decide-waits = refl
+
+-- a cluster that has given these numbers
+having-given : ℕ → ℕ → ℕ → Cluster → Cluster
+having-given tid recovery running c =
+    record {
+      wellMade = c .wellMade;
+      nodes = map (λ (n : Node). record { stores = record { cells = cellsOf n; journal = record { entries = journalOf n .entries; forced = []; pointer = 0; highest = running; capacity = 4 } }; volatile = n .volatile }) (c .nodes);
+      network = c .network;
+      coordinators = c .coordinators;
+      recoveries = c .recoveries;
+      lastTid = tid;
+      lastRecovery = recovery;
+    }
+
+-- the last tid, running number and recovery can be given, and no further one
+last-numbers : answers (having-given 65534 65534 65534 twoNodes)
+    (asks (write 0 5 (6 ∷ []) ∷ []) ∷ asks (read 0 0 1 ∷ []) ∷ delivers 0 255 ∷ recovers 0 65535 ∷ recovers 0 65535 ∷ [])
+    ≡ (opened 65535 ∷ refused Exhausted ∷ delivered true ∷ recovering 65535 ∷ refused Exhausted ∷ [])
+unfolding every-rule having-given
+last-numbers = refl
+
+running-exhausted : answers (having-given 0 0 65535 twoNodes)
+    (asks (read 0 0 1 ∷ []) ∷ delivers 0 255 ∷ delivers 0 255 ∷ decides 1 128 ∷ [])
+    ≡ (opened 1 ∷ delivered true ∷ delivered true ∷ decided false (Full ∷ []) [] ∷ [])
+unfolding every-rule having-given
+running-exhausted = refl
