@@ -4,3 +4,4 @@ mod Edges
 mod Sampled
 mod Progressing
 pub mod Leading
+pub mod Telling

@@ -25,3 +25,4 @@ pub mod Laws
 pub mod Samples
 pub mod EdgeCases
 pub mod Progress
+pub mod Bookkeeping

@@ -1,5 +1,6 @@
 //! Functions without code of their own, whose contracts are theorems about the rules.
 
+ghost use Rattle.model.specs.Bookkeeping.{DeedsTellAll};
 ghost use Rattle.model.specs.EdgeCases.{EdgeCases};
 ghost use Rattle.model.specs.Progress.{SomeHistoryProgresses};
 
@@ -13,6 +14,13 @@ pub fn edge_cases_stand() -> u8
 /// The laws speak of something: in some history a minitransaction is committed, applied and collected.
 pub fn some_history_progresses() -> u8
     ensures { λ _. ⌜ SomeHistoryProgresses ⌝ }
+{
+    0
+}
+
+/// What a history keeps of a call is all that the call did to what lasts.
+pub fn deeds_tell_all() -> u8
+    ensures { λ _. ⌜ DeedsTellAll ⌝ }
 {
     0
 }
