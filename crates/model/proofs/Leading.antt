@@ -13,8 +13,10 @@ use Rattle.model.specs.Writes.{Stores, Write, addEntry, force, note, put, flus
 use Rattle.model.specs.Node.{Node, Left}
 use Rattle.model.specs.Cluster.{Cluster, nodeAt}
 use Rattle.model.specs.Making.{making}
-use Rattle.model.specs.Calls.{step}
+use Rattle.model.specs.Calls.{Call, step}
 use Rattle.model.specs.Deeds.{Deed, asked, wrote, woke, nothing, deed, touched, touchedBy, touchedByAll}
+use Rattle.model.specs.Laws.{EveryHistoryIsLawful}
+use Rattle.model.specs.Theorem.{Performs, Continues, Lawful}
 use Rattle.model.specs.History.{Event, History, Faithful, Fed, Answered, following, writtenSince, LeftBy, LeftOf, Shown, Spared, Leads, LeadsTo}
 
 -- ## More bytes written before, more after
@@ -94,3 +96,15 @@ followed made (e ∷ es) t (s, (before, now)) =
 
 pub leads-faithful : (h : History) (t : Shown) → LeadsTo (h .beginning) (h .events) t → Faithful h
 leads-faithful h t l = let f = followed (h .beginning) (h .events) t l in record { fed = f .fed; answered = f .answered }
+
+-- ## What a public call promises
+
+pub continues : (s : Shown) (call : Call) (answer : Answer) (t : Shown) → Performs s call answer t → Continues s call answer t
+continues s call answer t now h before = (s, (before, now))
+
+-- from the laws of histories, those of whatever is shown
+pub lawful-shown : EveryHistoryIsLawful → (t : Shown) → Lawful t
+lawful-shown every t h l =
+    let f = followed (h .beginning) (h .events) t l in
+    let faithful = leads-faithful h t l in
+    record { same = f .same; faithful = faithful; laws = every h faithful }

@@ -25,7 +25,7 @@ use Rattle.model.specs.Ranges.{nodeOf, addressOf, itemsAt}
 use Rattle.model.specs.Participants.{includes, members, everyMember, participantsOf}
 use Rattle.model.specs.Journal.{Journal, isEmpty, oldest, past, says}
 use Rattle.model.specs.Writes.{fails}
-use Rattle.model.specs.Node.{Node, Left, cellsOf, journalOf, isUp, isDown, isRecovering, powerless, isInDoubt, doubtOf, isUnresolved, unresolvedOf, someUnresolved, recovering as restarting}
+use Rattle.model.specs.Node.{Node, Left, noneLeft, cellsOf, journalOf, isUp, isDown, isRecovering, powerless, isInDoubt, doubtOf, isUnresolved, unresolvedOf, someUnresolved, recovering as restarting}
 use Rattle.model.specs.Handling.{Effect, Reaction, lost, taken, carriedOut, reaction, resuming, settling, collecting}
 use Rattle.model.specs.Cluster.{Cluster, Coordinator, Recovery, hasNode, nodeAt, withNode, withNetwork, sent, hasRoom, noMessage, toEach, withCoordinators, coordinatorTid, newCoordinator, hasCoordinator, coordinatorOf, withVote, allVoted, decision, votesOf, readsOf, withRecoveries, recoveryNumber, newRecovery, hasRecovery, recoveryOf, withReply, allReplied, ruling}
 
@@ -47,6 +47,25 @@ pub data Call : Type 0 where
   queries : ℕ → ℕ → Call  -- a node, the node to ask
   collects : ℕ → ℕ → Call  -- a node, a write budget
   shows : ℕ → ℕ → ℕ → Call  -- a node, an address, a length
+
+-- what a call may be given of a loss of power: that of its node at a wake, nothing elsewhere
+abbrev pub leftAt : (ℕ → Left) → Call → Left
+leftAt f (opens bs) = noneLeft
+leftAt f (delivers i budget) = noneLeft
+leftAt f (loses i) = noneLeft
+leftAt f (decides tid buffer) = noneLeft
+leftAt f (leaves tid) = noneLeft
+leftAt f (recovers q tid) = noneLeft
+leftAt f (rules r) = noneLeft
+leftAt f (stops r) = noneLeft
+leftAt f (cuts q) = noneLeft
+leftAt f (wakes q) = f q
+leftAt f (inquires q tid other) = noneLeft
+leftAt f (resumes q budget) = noneLeft
+leftAt f (settles q budget) = noneLeft
+leftAt f (queries q other) = noneLeft
+leftAt f (collects q budget) = noneLeft
+leftAt f (shows q a n) = noneLeft
 
 -- ## Refusals
 

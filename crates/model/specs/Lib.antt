@@ -26,3 +26,4 @@ pub mod Samples
 pub mod EdgeCases
 pub mod Progress
 pub mod Bookkeeping
+pub mod Theorem
