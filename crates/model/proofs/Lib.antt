@@ -5,3 +5,4 @@ mod Sampled
 mod Progressing
 pub mod Leading
 pub mod Telling
+pub mod Bounding

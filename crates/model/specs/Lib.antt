@@ -27,3 +27,4 @@ pub mod EdgeCases
 pub mod Progress
 pub mod Bookkeeping
 pub mod Theorem
+pub mod Bounds

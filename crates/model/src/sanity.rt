@@ -1,6 +1,7 @@
 //! Functions without code of their own, whose contracts are theorems about the rules.
 
 ghost use Rattle.model.specs.Bookkeeping.{DeedsTellAll};
+ghost use Rattle.model.specs.Bounds.{EveryHistoryIsBounded};
 ghost use Rattle.model.specs.EdgeCases.{EdgeCases};
 ghost use Rattle.model.specs.Progress.{SomeHistoryProgresses};
 
@@ -21,6 +22,13 @@ pub fn some_history_progresses() -> u8
 /// What a history keeps of a call is all that the call did to what lasts.
 pub fn deeds_tell_all() -> u8
     ensures { λ _. ⌜ DeedsTellAll ⌝ }
+{
+    0
+}
+
+/// No history passes the bounds of a cluster, and none alters the number of its nodes.
+pub fn every_history_is_bounded() -> u8
+    ensures { λ _. ⌜ EveryHistoryIsBounded ⌝ }
 {
     0
 }
