@@ -6,3 +6,4 @@ mod Progressing
 pub mod Leading
 pub mod Telling
 pub mod Bounding
+mod Refusing

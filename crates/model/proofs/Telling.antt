@@ -54,7 +54,7 @@ down-elsewhere c q h = List·getD-eq-default (c .nodes) noNode (ltb-false q (len
 
 -- ## Refusals
 
-some-not-none : {X : Type 0} (x : X) → _≡_ {A = Option X} (Some x) None → ⊥
+pub some-not-none : {X : Type 0} (x : X) → _≡_ {A = Option X} (Some x) None → ⊥
 some-not-none {X} x e = subst is-some e tt
   where
     is-some : Option X → Type 0

@@ -1,9 +1,13 @@
--- That what the past keeps of a call is all that the call did to what lasts.
+-- That what the past keeps of a call is all that the call did to what lasts, and that a refused write does nothing.
 use Prim.Native.Nat.{ℕ, _+_}
 use mathlib.Core.Path.{_≡_}
 use mathlib.Core.Bool.{Bool, false, cond}
 use lib.Dec.{eqb}
-use Rattle.model.specs.Writes.{Stores, appliedAll}
+use mathlib.Core.List.{List}
+use Rattle.std.specs.declared.option.Option.{Option}
+use Rattle.std.specs.declared.option.Option.the-variants.{Some, None}
+use Rattle.model.specs.declared.refusal.Refusal.{Refusal}
+use Rattle.model.specs.Writes.{Stores, Write, refusalOf, applied, appliedAll, appliedUntil, Accepted}
 use Rattle.model.specs.Node.{Left}
 use Rattle.model.specs.Cluster.{Cluster, nodeAt}
 use Rattle.model.specs.Calls.{Call, step}
@@ -29,3 +33,8 @@ pub record DeedTells (c : Cluster) (call : Call) (left : Left) : Type 0 where
 
 abbrev pub DeedsTellAll : Type 0
 DeedsTellAll = (c : Cluster) (call : Call) (left : Left) → DeedTells c call left
+
+-- what a store refuses alters nothing; where nothing is refused, stopping at refusals makes no difference
+pub record WritesAreTotal : Type 0 where
+  pub refused : (w : Write) (s : Stores) (r : Refusal) → refusalOf w s ≡ Some r → applied w s ≡ s
+  pub accepted : (ws : List Write) (s : Stores) → Accepted ws s → appliedUntil ws s ≡ (None, appliedAll ws s)

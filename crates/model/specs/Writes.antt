@@ -1,5 +1,6 @@
 -- Durable edits of one node as values, and what a list of them, or the first few, makes of its stores.
 use Prim.Native.Nat.{ℕ}
+use mathlib.Core.Path.{_≡_}
 use mathlib.Core.Bool.{Bool, cond, _&&_, _||_, not}
 use mathlib.Core.List.{List, [], _∷_}
 use lib.Dec.{ltb}
@@ -59,9 +60,23 @@ refusalOf flushJournal s = None
 refusalOf (point n) s = None
 refusalOf dropOldest s = cond (isEmpty (s .journal)) (Some NotReady) None
 
+abbrev pub thenApplied : Option Refusal → Stores → Option Refusal × Stores → Option Refusal × Stores
+thenApplied None s next = next
+thenApplied (Some r) s next = (Some r, s)
+
 unfoldable pub appliedAll : List Write → Stores → Stores
 appliedAll [] s = s
 appliedAll (w ∷ ws) s = appliedAll ws (applied w s)
+
+-- the same up to a write that its store refuses, with the refusal
+unfoldable pub appliedUntil : List Write → Stores → Option Refusal × Stores
+appliedUntil [] s = (None, s)
+appliedUntil (w ∷ ws) s = thenApplied (refusalOf w s) s (appliedUntil ws (applied w s))
+
+-- no write of the list is refused when its turn comes
+abbrev pub Accepted : List Write → Stores → Type 0
+Accepted [] s = Unit {0}
+Accepted (w ∷ ws) s = (refusalOf w s ≡ None) × Accepted ws (applied w s)
 
 -- whether power fails in a call with this write budget
 abbrev pub fails : ℕ → Bool

@@ -1,6 +1,6 @@
 //! Functions without code of their own, whose contracts are theorems about the rules.
 
-ghost use Rattle.model.specs.Bookkeeping.{DeedsTellAll};
+ghost use Rattle.model.specs.Bookkeeping.{DeedsTellAll, WritesAreTotal};
 ghost use Rattle.model.specs.Bounds.{EveryHistoryIsBounded};
 ghost use Rattle.model.specs.EdgeCases.{EdgeCases};
 ghost use Rattle.model.specs.Progress.{SomeHistoryProgresses};
@@ -29,6 +29,13 @@ pub fn deeds_tell_all() -> u8
 /// No history passes the bounds of a cluster, and none alters the number of its nodes.
 pub fn every_history_is_bounded() -> u8
     ensures { λ _. ⌜ EveryHistoryIsBounded ⌝ }
+{
+    0
+}
+
+/// A write that its store refuses alters nothing.
+pub fn writes_are_total() -> u8
+    ensures { λ _. ⌜ WritesAreTotal ⌝ }
 {
     0
 }
