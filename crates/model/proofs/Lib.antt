@@ -6,3 +6,12 @@ pub mod ReadsBack
 pub mod WritesAgain
 pub mod MessageReadsBack
 pub mod MessageWritesAgain
+mod Computing
+mod Examples
+mod Edges
+mod Sampled
+mod Progressing
+pub mod Leading
+pub mod Telling
+pub mod Bounding
+mod Refusing
