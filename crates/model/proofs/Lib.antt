@@ -15,3 +15,4 @@ pub mod Leading
 pub mod Telling
 pub mod Bounding
 mod Refusing
+pub mod Searching

@@ -2,6 +2,8 @@
 use Prim.Native.Nat.{ℕ, zero, suc}
 use mathlib.Core.Bool.{Bool, true, false, cond, _&&_, _||_}
 use mathlib.Core.List.{List, [], _∷_, _++_}
+use Rattle.std.specs.declared.option.Option.{Option}
+use Rattle.std.specs.declared.option.Option.the-variants.{Some, None}
 use lib.Dec.{eqb, ltb}
 use lib.ListN.{length}
 
@@ -33,3 +35,7 @@ stands number n xs = ltb (place number n xs) (length xs)
 -- whether a number stands among numbers
 abbrev pub among : ℕ → List ℕ → Bool
 among n ns = stands (λ m. m) n ns
+
+-- the place of the first element with a number, if one has it
+abbrev pub placeIn : {X : Type 0} → (X → ℕ) → ℕ → List X → Option ℕ
+placeIn number n xs = cond (stands number n xs) (Some (place number n xs)) None

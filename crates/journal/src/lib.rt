@@ -1,0 +1,3 @@
+//! Journals: the redo logs of memory nodes, and the search by number that serves every table.
+
+pub mod search;
