@@ -7,3 +7,4 @@ pub mod Leading
 pub mod Telling
 pub mod Bounding
 mod Refusing
+pub mod Keeping
