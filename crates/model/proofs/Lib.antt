@@ -8,3 +8,4 @@ pub mod Telling
 pub mod Bounding
 mod Refusing
 pub mod Keeping
+pub mod Counting
