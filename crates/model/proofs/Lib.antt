@@ -16,3 +16,5 @@ pub mod Telling
 pub mod Bounding
 mod Refusing
 pub mod Searching
+pub mod Keeping
+pub mod Counting

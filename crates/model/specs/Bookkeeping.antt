@@ -1,35 +1,36 @@
 -- That what the past keeps of a call is all that the call did to what lasts, and that a refused write does nothing.
 use Prim.Native.Nat.{ℕ, _+_}
 use mathlib.Core.Path.{_≡_}
-use mathlib.Core.Bool.{Bool, false, cond}
+use mathlib.Core.Bool.{cond}
 use lib.Dec.{eqb}
 use mathlib.Core.List.{List}
 use Rattle.std.specs.declared.option.Option.{Option}
 use Rattle.std.specs.declared.option.Option.the-variants.{Some, None}
 use Rattle.model.specs.declared.refusal.Refusal.{Refusal}
 use Rattle.model.specs.Writes.{Stores, Write, refusalOf, applied, appliedAll, appliedUntil, Accepted}
+use Rattle.model.specs.Journal.{restarted}
 use Rattle.model.specs.Node.{Left}
 use Rattle.model.specs.Cluster.{Cluster, nodeAt}
 use Rattle.model.specs.Calls.{Call, step}
 use Rattle.model.specs.Deeds.{Deed, asked, wrote, woke, nothing, deed}
 
--- the stores of node q, before and after a deed: they change by its writes, and at a restart
-abbrev pub StoresBy : Deed → ℕ → Stores → Stores → Type 0
-StoresBy (asked is) q before after = after ≡ before
-StoresBy (wrote p ws) q before after = after ≡ cond (eqb p q) (appliedAll ws before) before
-StoresBy (woke p) q before after = eqb p q ≡ false → after ≡ before
-StoresBy nothing q before after = after ≡ before
+-- what a deed makes of the stores of node q: they change by its writes, and at a restart to what was left
+abbrev pub storesAfter : Deed → Left → ℕ → Stores → Stores
+storesAfter (asked is) left q s = s
+storesAfter (wrote p ws) left q s = cond (eqb p q) (appliedAll ws s) s
+storesAfter (woke p) left q s = cond (eqb p q) (record { cells = left .cells; journal = restarted (s .journal) (left .outcomes) }) s
+storesAfter nothing left q s = s
 
--- the last tid given, before and after a deed
-abbrev pub TidBy : Deed → ℕ → ℕ → Type 0
-TidBy (asked is) before after = after ≡ before + 1
-TidBy (wrote p ws) before after = after ≡ before
-TidBy (woke p) before after = after ≡ before
-TidBy nothing before after = after ≡ before
+-- the last tid given after a deed
+abbrev pub tidAfter : Deed → ℕ → ℕ
+tidAfter (asked is) tid = tid + 1
+tidAfter (wrote p ws) tid = tid
+tidAfter (woke p) tid = tid
+tidAfter nothing tid = tid
 
 pub record DeedTells (c : Cluster) (call : Call) (left : Left) : Type 0 where
-  pub stores : (q : ℕ) → StoresBy (deed c call) q (nodeAt c q .stores) (nodeAt (step c call left .1) q .stores)
-  pub tids : TidBy (deed c call) (c .lastTid) (step c call left .1 .lastTid)
+  pub stores : (q : ℕ) → nodeAt (step c call left .1) q .stores ≡ storesAfter (deed c call) left q (nodeAt c q .stores)
+  pub tids : step c call left .1 .lastTid ≡ tidAfter (deed c call) (c .lastTid)
 
 abbrev pub DeedsTellAll : Type 0
 DeedsTellAll = (c : Cluster) (call : Call) (left : Left) → DeedTells c call left

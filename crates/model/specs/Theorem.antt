@@ -39,12 +39,12 @@ Performs s call answer t = Leads s (eventOf call answer (t .cluster)) t
 abbrev pub LeadsHere : History → Shown → Type 0
 LeadsHere h t = LeadsTo (h .beginning) (h .events) t
 
-abbrev pub with-event : Event → History → History
-with-event e h = record { beginning = h .beginning; events = e ∷ h .events }
+abbrev pub withEvent : Event → History → History
+withEvent e h = record { beginning = h .beginning; events = e ∷ h .events }
 
 -- each history that leads to the entry leads, with this call added, to the exit
 abbrev pub Continues : Shown → Call → Answer → Shown → Type 0
-Continues s call answer t = (h : History) → LeadsHere h s → LeadsHere (with-event (eventOf call answer (t .cluster)) h) t
+Continues s call answer t = (h : History) → LeadsHere h s → LeadsHere (withEvent (eventOf call answer (t .cluster)) h) t
 
 -- a cluster made of these stores: the history without calls leads to it
 abbrev pub Begins : List Stores → Shown → Type 0

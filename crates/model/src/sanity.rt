@@ -1,7 +1,7 @@
 //! Functions without code of their own, whose contracts are theorems about the rules.
 
 ghost use Rattle.model.specs.Bookkeeping.{DeedsTellAll, WritesAreTotal};
-ghost use Rattle.model.specs.Bounds.{EveryHistoryIsBounded};
+ghost use Rattle.model.specs.Bounds.{EveryHistoryIsBounded, EveryJournalIsBounded, EveryMemoryKeepsItsSize};
 ghost use Rattle.model.specs.EdgeCases.{EdgeCases};
 ghost use Rattle.model.specs.Progress.{SomeHistoryProgresses};
 
@@ -29,6 +29,14 @@ pub fn deeds_tell_all() -> u8
 /// No history passes the bounds of a cluster, and none alters the number of its nodes.
 pub fn every_history_is_bounded() -> u8
     ensures { λ _. ⌜ EveryHistoryIsBounded ⌝ }
+{
+    0
+}
+
+/// In every history each journal stays within its bounds and each memory keeps its size.
+pub fn every_store_is_bounded() -> u8
+    ensures journals { λ _. ⌜ EveryJournalIsBounded ⌝ }
+    ensures memories { λ _. ⌜ EveryMemoryKeepsItsSize ⌝ }
 {
     0
 }
