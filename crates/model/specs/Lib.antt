@@ -4,3 +4,4 @@ pub mod Votes
 pub mod Items
 pub mod Messages
 pub mod Answers
+pub mod Memory

@@ -1,0 +1,7 @@
+use borrow.Author.Needs.{needs}
+use Rattle.std.proofs.shelf.Parts.{overwrites}
+use Rattle.std.proofs.shelf.Lists.{places}
+use Rattle.memory.proofs.range.overwrite.Needs as need
+
+pub returns : need.returns
+returns c = record { items = search (needs, overwrites, places); len = search needs }
