@@ -3,9 +3,10 @@ use Prim.Native.Nat.{ℕ, _+_, _-_, _≤_, _<_}
 use mathlib.Core.Path.{_≡_}
 use mathlib.Core.List.{List, [], _∷_, _++_}
 use native.Mathlib.Omega.{arith}
+use native.Mathlib.Nat.{add-zero}
 use borrow.Author.Needs.{needs}
 use lib.ListN.{length, getD, set, take, drop}
-use Rattle.std.proofs.shelf.Lists.{places, same-lists, append-assoc, take-at, drop-at, getD-set-same}
+use Rattle.std.proofs.shelf.Lists.{places, same-lists, take-append-drop, getD-set-same}
 use Rattle.std.proofs.shelf.Parts.{overwrites}
 use Rattle.std.proofs.shelf.Tests.{cases-eq}
 use Rattle.model.specs.Memory.{part, splice}
@@ -35,3 +36,6 @@ splice-whole xs ys e = same-lists _ _ (search (needs, places)) (λ k d l. grind 
 
 pub part-splice : (xs ys : List ℕ) (a : ℕ) → a + length ys ≤ length xs → part (splice xs a ys) a (length ys) ≡ ys
 part-splice xs ys a h = same-lists _ _ (search (needs, places)) (λ k d l. grind (arith, places))
+
+pub splice-none : {X : Type 0} (xs : List X) (a : ℕ) → splice xs a [] ≡ xs
+splice-none xs a = rw add-zero (take-append-drop a xs)
