@@ -89,7 +89,7 @@ returns g c =
     let xs = g .M·Memory .bytes (c .args .self .now .below) in
     let ls′ = vec-items (c .loop-number .self .lines) in
     let xs′ = g .M·Memory .bytes (c .loop-number .self .below) in
-    let all : take (q * lineBytes - a) from ≡ from = take-all _ _ (omega (arith, c .loop-number-test .left)) in
+    let all : take (q * lineBytes - a) from ≡ from = take-all (q * lineBytes - a) from (omega (arith, c .loop-number-test .left)) in
     let m : q - a / lineBytes ≡ touched a (length from) = omega (arith, touched-some a (length from) n, c .loop-number-test .left, c .loop-number .kept .number-end) in
     record {
       back = subst (λ ws. WroteBack ls xs a ws (touched a (length from)) ls′ xs′) all (subst (λ w. WroteBack ls xs a (take (q * lineBytes - a) from) w ls′ xs′) m (c .loop-number .inv .0 .0));
