@@ -13,6 +13,7 @@ ghost use Rattle.model.specs.Memory.{within, splice, AllDurable, Kept, Survived
 ghost use Rattle.line_buffer.specs.Lines.{lineBytes, mostLines, numbers, heldAt, laid, missing, touched, safe, WroteBack};
 use crate::buffer::LineBuffer;
 use crate::table::overlay;
+use crate::table::room_for;
 use memory::Memory;
 use memory::range::fits;
 use model::refusal::Refusal;
@@ -25,7 +26,7 @@ impl<M: Memory> LineBuffer<M> {
         ensures made { λ r. ⌜ made r (λ b. (b .below ≡ below) × (vec-items (b .lines) ≡ [])) ⌝ }
         ensures refused { λ r. ⌜ whenRefused r (λ e. e .value ≡ below) ⌝ }
     {
-        match Vec::with_capacity(heap, 8) {
+        match room_for(heap, 8) {
             Ok(lines) => Ok(LineBuffer { below, lines }),
             Err(_) => Err(Refused { value: below }),
         }
@@ -91,7 +92,7 @@ pub impl<M: Memory> Memory for LineBuffer<M> as LineBufferMemory {
         ensures lines { λ _. ⌜ (vec-items (now (self .exit) .lines)) ≡ [] ⌝ }
         ensures below { λ _. ⌜ Survived (M·Memory .bytes (now (self .entry) .below)) (M·Memory .durable (now (self .entry) .below)) (M·Memory .bytes (now (self .exit) .below)) ⌝ }
     {
-        self.lines.clear();
+        self.forget();
         self.below.restart();
     }
 }

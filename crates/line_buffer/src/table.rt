@@ -8,11 +8,14 @@ ghost use mathlib.Core.List.{List, [], _∷_, _++_, map};
 ghost use lib.Dec.{leb, eqb};
 ghost use lib.ListN.{length, getD, replicate};
 ghost use Rattle.std.specs.Options.{Cases as BySome, valueOr};
+ghost use Rattle.std.specs.Vec.{made};
 ghost use Rattle.std.specs.Of.Vec.{vec-items, vec-len, vec-cap};
 ghost use Rattle.std.specs.declared.option.Option.the-variants.{Some, None};
 ghost use Rattle.model.specs.Memory.{splice, named};
 ghost use Rattle.line_buffer.specs.Lines.{lineBytes, mostLines, numbers, member, apart, cellAt, heldAt, laid, written, takes};
 use crate::line::Line;
+use std::alloc::AllocError;
+use std::alloc::Global;
 
 impl Line {
     /// A line of which nothing is written yet.
@@ -68,6 +71,13 @@ pub(crate) fn overlay(lines: &[Line], at: usize, out: &mut [u8])
     for line in lines {
         line.lay(at, out);
     }
+}
+
+/// A table that holds no line yet and has room for `count` of them.
+pub(crate) fn room_for(heap: Global, count: usize) -> Result<Vec<Line>, AllocError>
+    ensures { λ r. ⌜ made r (λ v. (vec-items v ≡ []) × (vec-len v ≡ 0) × (count ≤ vec-cap v) × (apart (numbers (vec-items v)) ≡ true)) ⌝ }
+{
+    Vec::with_capacity(heap, count)
 }
 
 /// The place of the line with the given number, if it is held.

@@ -2,15 +2,16 @@
 
 ghost use Prim.Native.Nat.{ℕ, _+_, _-_, _/_, _%_, _≤_, _<_};
 ghost use mathlib.Core.Path.{_≡_};
-ghost use mathlib.Core.Bool.{true, false, cond};
-ghost use mathlib.Core.List.{[]};
+ghost use mathlib.Core.Bool.{Bool, true, false, cond};
+ghost use mathlib.Core.List.{List, []};
 ghost use lib.Dec.{eqb};
 ghost use lib.ListN.{length, getD};
 ghost use Rattle.std.specs.Holes.{removed};
 ghost use Rattle.std.specs.Of.Vec.{vec-items, vec-len};
 ghost use Rattle.std.specs.declared.option.Option.the-variants.{None};
+ghost use Rattle.model.specs.Memory.{AllDurable, Survived};
 ghost use Rattle.model.specs.Numbers.{mostBytes};
-ghost use Rattle.line_buffer.specs.Lines.{lineBytes, mostLines, numbers, cellAt, heldAt, laid, written, takes, missing, touched, WroteBack, Wrote};
+ghost use Rattle.line_buffer.specs.Lines.{lineBytes, mostLines, numbers, cellAt, heldAt, laid, written, takes, missing, touched, safe, WroteBack, Wrote};
 use crate::buffer::LineBuffer;
 use crate::line::Line;
 use crate::table::has_place;
@@ -106,13 +107,26 @@ impl<M: Memory> LineBuffer<M> {
         }
     }
 
-    /// Writes all lines back.
+    /// Writes all lines back, so that the memory below shows by itself and its bytes are as durable as they are there.
     pub(crate) fn drain(&mut self)
         ensures lines { λ _. ⌜ vec-items (now (self .exit) .lines) ≡ [] ⌝ }
         ensures bytes { λ _. ⌜ bytes (now (self .exit) .below) ≡ laid 0 (heldAt (vec-items (now (self .entry) .lines))) (bytes (now (self .entry) .below)) ⌝ }
+        ensures shown { λ _. ⌜ ((ys : List ℕ) → laid 0 (heldAt (vec-items (now (self .exit) .lines))) ys ≡ ys) ⌝ }
+        ensures free { λ _. ⌜ ((d : ℕ → Bool) → AllDurable d → AllDurable (safe (vec-items (now (self .exit) .lines)) d)) ⌝ }
     {
         while !self.lines.is_empty() {
             self.evict(0);
         }
+    }
+
+    /// Holds nothing any more: what survives below is what survives.
+    pub(crate) fn forget(&mut self)
+        ensures lines { λ _. ⌜ vec-items (now (self .exit) .lines) ≡ [] ⌝ }
+        ensures below { λ _. ⌜ now (self .exit) .below ≡ now (self .entry) .below ⌝ }
+        ensures free { λ _. ⌜ ((d : ℕ → Bool) → AllDurable d → AllDurable (safe (vec-items (now (self .exit) .lines)) d)) ⌝ }
+        ensures survivors { λ _. ⌜ ((ys : List ℕ) → Survived (bytes (now (self .exit) .below)) (durable (now (self .exit) .below)) ys → Survived (laid 0 (heldAt (vec-items (now (self .entry) .lines))) (bytes (now (self .entry) .below))) (safe (vec-items (now (self .entry) .lines)) (durable (now (self .entry) .below))) (laid 0 (heldAt (vec-items (now (self .exit) .lines))) ys)) ⌝ }
+        ensures under { λ _. ⌜ ((ys : List ℕ) → Survived (bytes (now (self .exit) .below)) (durable (now (self .exit) .below)) ys → Survived (bytes (now (self .entry) .below)) (durable (now (self .entry) .below)) ys) ⌝ }
+    {
+        self.lines.clear();
     }
 }

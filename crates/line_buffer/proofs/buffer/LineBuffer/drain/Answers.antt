@@ -8,6 +8,7 @@ use Rattle.std.specs.Of.Vec.{vec-items, vec-len}
 use Rattle.std.proofs.shelf.Lists.{nil-from-length}
 use Rattle.std.proofs.shelf.Tests.{eqb-true}
 use Rattle.line_buffer.specs.Lines.{heldAt, laid}
+use Rattle.line_buffer.proofs.Shown.{safe-no-lines}
 use Rattle.line_buffer.proofs.WriteBack.{laid-evicted, laid-no-lines}
 use Rattle.line_buffer.proofs.buffer.LineBuffer.drain.Needs as need
 
@@ -25,6 +26,8 @@ returns g c =
     let e : ls ≡ [] = nil-from-length ls (sym (c .loop-self .self .lines .ok .0) ∙ none) in
     record {
       lines = e;
+      shown = λ ys. ap (λ zs. laid 0 (heldAt zs) ys) e ∙ laid-no-lines ys;
+      free = λ d. safe-no-lines ls d e;
       bytes =
           sym (laid-no-lines (g .M·Memory .bytes (c .loop-self .self .below)))
           ∙ ap (λ zs. laid 0 (heldAt zs) (g .M·Memory .bytes (c .loop-self .self .below))) (sym e) ∙ c .loop-self .inv;
