@@ -5,14 +5,13 @@ use mathlib.Core.Bool.{Bool, true, false, cond, _&&_, not}
 use mathlib.Core.Logic.{⊎-elim}
 use mathlib.Core.List.{List, [], _∷_, _++_}
 use native.Mathlib.Omega.{arith}
-use lib.Dec.{leb}
 use lib.ListN.{length, getD, take, drop}
 use Rattle.std.specs.Options.{valueOr, isSome}
 use Rattle.std.specs.declared.option.Option.{Option}
 use Rattle.std.specs.declared.option.Option.the-variants.{Some, None}
 use Rattle.std.proofs.shelf.Lists.{ext-getD, getD-take, getD-drop, getD-past, length-take-le, length-drop}
 use Rattle.std.proofs.shelf.Tests.{cases-lt, and-parts, and-from, not-true, not-from-false}
-use Rattle.model.specs.Memory.{within, part, AllDurable, Survived}
+use Rattle.model.specs.Memory.{part, AllDurable, Survived}
 use Rattle.line_buffer.specs.declared.line.Line.{Line}
 use Rattle.line_buffer.specs.Lines.{numbers, apart, heldAt, laid, safe}
 use Rattle.line_buffer.proofs.Laid.{length-laid, getD-laid, getD-laid-from}
@@ -22,9 +21,6 @@ use Rattle.line_buffer.proofs.WriteBack.{laid-no-lines}
 pub apart-none : (ls : List Line) → ls ≡ [] → apart (numbers ls) ≡ true
 unfolding apart
 apart-none ls e = ap (λ zs. apart (numbers zs)) e
-
-pub within-laid : (h : ℕ → Option ℕ) (xs : List ℕ) (a n : ℕ) → within (laid 0 h xs) a n ≡ within xs a n
-within-laid h xs a n = ap (leb (a + n)) (length-laid 0 h xs)
 
 pub laid-part : (h : ℕ → Option ℕ) (xs : List ℕ) (a n : ℕ) → a + n ≤ length xs → laid a h (part xs a n) ≡ part (laid 0 h xs) a n
 laid-part h xs a n fit =

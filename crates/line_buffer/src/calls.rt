@@ -12,7 +12,6 @@ ghost use Rattle.std.specs.declared.result.Result.the-variants.{Ok, Err};
 ghost use Rattle.model.specs.Memory.{within, splice, AllDurable, Kept, Survived};
 ghost use Rattle.line_buffer.specs.Lines.{lineBytes, mostLines, numbers, heldAt, laid, missing, touched, safe, WroteBack};
 use crate::buffer::LineBuffer;
-use crate::table::overlay;
 use crate::table::room_for;
 use memory::Memory;
 use memory::range::fits;
@@ -52,8 +51,10 @@ pub impl<M: Memory> Memory for LineBuffer<M> as LineBufferMemory {
     }
 
     fn read(&self, at: usize, out: &mut [u8]) -> Result<(), Refusal> {
-        self.below.read(at, out)?;
-        overlay(self.lines.as_slice(), at, out);
+        if !fits(self.len(), at, out.len()) {
+            return Err(Refusal::OutOfRange);
+        }
+        self.fetch(at, out);
         Ok(())
     }
 
@@ -67,7 +68,7 @@ pub impl<M: Memory> Memory for LineBuffer<M> as LineBufferMemory {
         ensures back { λ r. ⌜ (isOk r ≡ true → WroteBack (vec-items (now (self .entry) .lines)) (M·Memory .bytes (now (self .entry) .below)) at (now (from .entry)) (touched at (length (now (from .entry)))) (vec-items (now (self .exit) .lines)) (M·Memory .bytes (now (self .exit) .below))) ⌝ }
         ensures untouched { λ r. ⌜ (isOk r ≡ false → (now (self .exit) .below ≡ now (self .entry) .below) × ((vec-items (now (self .exit) .lines)) ≡ (vec-items (now (self .entry) .lines)))) ⌝ }
     {
-        if !fits(self.below.len(), at, from.len()) {
+        if !fits(self.len(), at, from.len()) {
             return Err(Refusal::OutOfRange);
         }
         self.put_all(at, from);

@@ -9,7 +9,7 @@ ghost use lib.ListN.{length, getD};
 ghost use Rattle.std.specs.Holes.{removed};
 ghost use Rattle.std.specs.Of.Vec.{vec-items, vec-len};
 ghost use Rattle.std.specs.declared.option.Option.the-variants.{None};
-ghost use Rattle.model.specs.Memory.{AllDurable, Survived};
+ghost use Rattle.model.specs.Memory.{part, splice, AllDurable, Kept, Survived};
 ghost use Rattle.model.specs.Numbers.{mostBytes};
 ghost use Rattle.line_buffer.specs.Lines.{lineBytes, mostLines, numbers, cellAt, heldAt, laid, written, takes, missing, touched, safe, WroteBack, Wrote};
 use crate::buffer::LineBuffer;
@@ -17,6 +17,7 @@ use crate::line::Line;
 use crate::table::has_place;
 use crate::table::hold;
 use crate::table::oldest_outside;
+use crate::table::overlay;
 use memory::Memory;
 
 /// Writes the byte of one address back, if it was written; past the end of the memory there is none.
@@ -90,8 +91,10 @@ impl<M: Memory> LineBuffer<M> {
 
     /// Writes bytes line by line.
     pub(crate) fn put_all(&mut self, at: usize, from: &[u8])
-        requires range { ⌜ at + length (now from) ≤ length (bytes (now self .below)) ⌝ }
-        requires bound { ⌜ length (bytes (now self .below)) ≤ mostBytes ⌝ }
+        requires range { ⌜ at + length (now from) ≤ length (laid 0 (heldAt (vec-items (now self .lines))) (bytes (now self .below))) ⌝ }
+        requires bound { ⌜ length (laid 0 (heldAt (vec-items (now self .lines))) (bytes (now self .below))) ≤ mostBytes ⌝ }
+        ensures bytes { λ _. ⌜ (laid 0 (heldAt (vec-items (now (self .exit) .lines))) (bytes (now (self .exit) .below))) ≡ splice (laid 0 (heldAt (vec-items (now (self .entry) .lines))) (bytes (now (self .entry) .below))) at (now (from .entry)) ⌝ }
+        ensures kept { λ _. ⌜ Kept (safe (vec-items (now (self .entry) .lines)) (durable (now (self .entry) .below))) (safe (vec-items (now (self .exit) .lines)) (durable (now (self .exit) .below))) at (length (now (from .entry))) ⌝ }
         ensures back { λ _. ⌜ WroteBack (vec-items (now (self .entry) .lines)) (bytes (now (self .entry) .below)) at (now (from .entry)) (touched at (length (now (from .entry)))) (vec-items (now (self .exit) .lines)) (bytes (now (self .exit) .below)) ⌝ }
         ensures lazy { λ _. ⌜ (length (vec-items (now (self .entry) .lines)) + missing (numbers (vec-items (now (self .entry) .lines))) (at / lineBytes) (touched at (length (now (from .entry)))) ≤ mostLines → now (self .exit) .below ≡ now (self .entry) .below) ⌝ }
         ensures durable { λ _. ⌜ ((k : ℕ) → written (heldAt (vec-items (now (self .entry) .lines))) at (now (from .entry)) k ≡ None → durable (now (self .entry) .below) k ≡ true → durable (now (self .exit) .below) k ≡ true) ⌝ }
@@ -105,6 +108,15 @@ impl<M: Memory> LineBuffer<M> {
             let end = (at + from.len()).min(number * 16 + 16);
             self.put(start, &from[start - at..end - at], last as u8);
         }
+    }
+
+    /// Reads from below and lays the held bytes over it.
+    pub(crate) fn fetch(&self, at: usize, out: &mut [u8])
+        requires { ⌜ at + length (now out) ≤ length (laid 0 (heldAt (vec-items (now self .lines))) (bytes (now self .below))) ⌝ }
+        ensures { λ _. ⌜ now (out .exit) ≡ part (laid 0 (heldAt (vec-items (now (self .entry) .lines))) (bytes (now (self .entry) .below))) at (length (now (out .entry))) ⌝ }
+    {
+        let _ = self.below.read(at, out);
+        overlay(self.lines.as_slice(), at, out);
     }
 
     /// Writes all lines back, so that the memory below shows by itself and its bytes are as durable as they are there.

@@ -9,7 +9,3 @@ use Rattle.std.specs.declared.result.Result.the-variants.{Ok, Err}
 pub done-within : {E : Type 0} (e : E) (b : Bool) → _≡_ {A = Result Unit E} (Ok tt) (cond b (Ok tt) (Err e)) → b ≡ true
 done-within e true h = refl
 done-within e false h = let z : _≡_ {A = ℕ} 0 1 = cc in absurd (omega arith)
-
-pub refused-past : {E : Type 0} (e x : E) (b : Bool) → _≡_ {A = Result Unit E} (Err x) (cond b (Ok tt) (Err e)) → b ≡ false
-refused-past e x true h = let z : _≡_ {A = ℕ} 0 1 = cc in absurd (omega arith)
-refused-past e x false h = refl

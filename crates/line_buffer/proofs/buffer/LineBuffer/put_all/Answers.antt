@@ -9,7 +9,8 @@ use Rattle.std.specs.declared.option.Option.the-variants.{None}
 use Rattle.std.proofs.shelf.Lists.{take-all}
 use Rattle.std.proofs.shelf.Tests.{eqb-true, eqb-false}
 use Rattle.line_buffer.specs.Lines.{lineBytes, mostLines, numbers, heldAt, written, missing, touched, WroteBack}
-use Rattle.line_buffer.proofs.Put.{wrote-start, wrote-empty, wrote-next, wrote-length, place-next, unheld-next, length-piece, piece-fits, touched-some}
+use Rattle.line_buffer.proofs.Laid.{length-laid}
+use Rattle.line_buffer.proofs.Put.{wrote-bytes, wrote-kept, wrote-start, wrote-empty, wrote-next, wrote-length, place-next, unheld-next, length-piece, piece-fits, touched-some}
 use Rattle.line_buffer.proofs.buffer.LineBuffer.put_all.Needs as need
 
 some : (n : ℕ) → (n ≡ 0 → ⊥) → 0 < n
@@ -18,8 +19,14 @@ some n h = search needs
 pub returns-then-is-empty : need.returns-then-is-empty
 returns-then-is-empty g c =
     let e : length (c .args .from .now) ≡ 0 = eqb-true _ _ (sym (c .if-is-empty .ensures tt)) in
+    let ls = vec-items (c .args .self .now .lines) in
+    let xs = g .M·Memory .bytes (c .args .self .now .below) in
+    let back = wrote-empty ls xs (c .args .at) (c .args .from .now) e in
+    let room : c .args .at + length (c .args .from .now) ≤ length xs = omega (arith, c .pre .range, length-laid 0 (heldAt ls) xs) in
     record {
-      back = wrote-empty (vec-items (c .args .self .now .lines)) (g .M·Memory .bytes (c .args .self .now .below)) (c .args .at) (c .args .from .now) e;
+      bytes = wrote-bytes ls xs (c .args .at) (c .args .from .now) _ ls xs back room;
+      kept = wrote-kept ls xs (c .args .at) (c .args .from .now) _ ls xs back (g .M·Memory .durable (c .args .self .now .below)) (g .M·Memory .durable (c .args .self .now .below)) (λ k _ t. t);
+      back = back;
       lazy = λ _. refl;
       durable = λ k _ t. t;
     }
@@ -46,9 +53,9 @@ put-requires g c κs =
     let long : length xs₁ ≡ length xs = wrote-length ls xs a _ _ ls₁ xs₁ (c .loop-number .inv .0 .0) in
     let p = length-piece ls xs a (c .args .from .now) q ls₁ xs₁ last first up more (c .max-start .result) (c .min-end .result) starts ends in
     record {
-      address = omega (arith, starts, c .pre .range, c .pre .bound);
+      address = omega (arith, starts, c .pre .range, c .pre .bound, length-laid 0 (heldAt ls) xs);
       inside = piece-fits ls xs a (c .args .from .now) q ls₁ xs₁ last first up more (c .max-start .result) (c .min-end .result) starts ends;
-      range = omega (arith, p, long, starts, ends, c .pre .range);
+      range = omega (arith, p, long, starts, ends, c .pre .range, length-laid 0 (heldAt ls) xs);
     }
 
 pub loop-number-again : need.loop-number-again
@@ -91,8 +98,15 @@ returns g c =
     let xs′ = g .M·Memory .bytes (c .loop-number .self .below) in
     let all : take (q * lineBytes - a) from ≡ from = take-all (q * lineBytes - a) from (omega (arith, c .loop-number-test .left)) in
     let m : q - a / lineBytes ≡ touched a (length from) = omega (arith, touched-some a (length from) n, c .loop-number-test .left, c .loop-number .kept .number-end) in
+    let back : WroteBack ls xs a from (touched a (length from)) ls′ xs′ =
+    subst (λ ws. WroteBack ls xs a ws (touched a (length from)) ls′ xs′) all (subst (λ w. WroteBack ls xs a (take (q * lineBytes - a) from) w ls′ xs′) m (c .loop-number .inv .0 .0)) in
+    let room : a + length from ≤ length xs = omega (arith, c .pre .range, length-laid 0 (heldAt ls) xs) in
+    let durable : (k : ℕ) → written (heldAt ls) a from k ≡ None → g .M·Memory .durable (c .args .self .now .below) k ≡ true → g .M·Memory .durable (c .loop-number .self .below) k ≡ true =
+    λ k o. c .loop-number .inv .2 k (ap (λ ws. written (heldAt ls) a ws k) all ∙ o) in
     record {
-      back = subst (λ ws. WroteBack ls xs a ws (touched a (length from)) ls′ xs′) all (subst (λ w. WroteBack ls xs a (take (q * lineBytes - a) from) w ls′ xs′) m (c .loop-number .inv .0 .0));
+      bytes = wrote-bytes ls xs a from _ ls′ xs′ back room;
+      kept = wrote-kept ls xs a from _ ls′ xs′ back (g .M·Memory .durable (c .args .self .now .below)) (g .M·Memory .durable (c .loop-number .self .below)) durable;
+      back = back;
       lazy = λ l. c .loop-number .inv .1 (subst (λ w. length ls + missing (numbers ls) (a / lineBytes) w ≤ mostLines) (sym m) l);
-      durable = λ k o. c .loop-number .inv .2 k (ap (λ ws. written (heldAt ls) a ws k) all ∙ o);
+      durable = durable;
     }
