@@ -1,11 +1,11 @@
 -- Cells of memory, and what reading, comparing and writing a range of them does.
--- Only `shown`, `matches` and `stored` look inside a cell. `within`, `part` and `splice` are those of Memory.
-use Prim.Native.Nat.{ℕ, _+_}
+-- Only `shown`, `matches` and `stored` look inside a cell.
+use Prim.Native.Nat.{ℕ}
 use mathlib.Core.Bool.{Bool, cond, _&&_}
-use mathlib.Core.List.{List, [], _++_}
-use lib.Dec.{leb}
-use lib.ListN.{length, take, drop}
+use mathlib.Core.List.{List, []}
+use lib.ListN.{length}
 use Rattle.std.specs.shelf.Text.{sameBytes}
+pub use Rattle.model.specs.Bytes.{within, part, splice}
 
 abbrev pub Cell : Type 0
 Cell = ℕ
@@ -25,16 +25,6 @@ matches cs bs = sameBytes cs bs
 -- the cells that hold written bytes
 abbrev pub stored : List ℕ → List Cell
 stored bs = bs
-
--- whether the range of n cells from a ends within the memory
-abbrev pub within : List Cell → ℕ → ℕ → Bool
-within cs a n = leb (a + n) (length cs)
-
-abbrev pub part : List Cell → ℕ → ℕ → List Cell
-part cs a n = take n (drop a cs)
-
-abbrev pub splice : List Cell → ℕ → List Cell → List Cell
-splice cs a new = take a cs ++ (new ++ drop (a + length new) cs)
 
 -- A range past the end holds nothing: it reads as no bytes, matches nothing, and a write to it alters nothing.
 -- (No history gets there: every item that was opened lies within its memory.)

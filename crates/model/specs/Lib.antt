@@ -31,3 +31,4 @@ pub mod Progress
 pub mod Bookkeeping
 pub mod Theorem
 pub mod Bounds
+pub mod Memory

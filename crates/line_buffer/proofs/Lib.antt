@@ -1,0 +1,9 @@
+pub mod Distinct
+pub mod Held
+pub mod Laid
+pub mod Cells
+pub mod Hold
+pub mod WriteBack
+pub mod Written
+pub mod Put
+pub mod Shown

@@ -1,0 +1,3 @@
+pub mod Splice
+pub mod Survivors
+pub mod Answered

@@ -1,0 +1,6 @@
+use borrow.Author.Needs.{needs}
+use Rattle.memory.proofs.Splice.{splice-whole}
+use Rattle.memory.proofs.range.refill.Needs as need
+
+pub returns : need.returns
+returns c = search (needs, splice-whole)
