@@ -7,3 +7,4 @@ pub mod WriteBack
 pub mod Written
 pub mod Put
 pub mod Shown
+pub mod Wrote

@@ -51,6 +51,10 @@ unfoldable pub laid : ℕ → (ℕ → Option ℕ) → List ℕ → List ℕ
 laid a h [] = []
 laid a h (x ∷ xs) = valueOr (h a) x ∷ laid (suc a) h xs
 
+-- the bytes xs of the memory below as they show under the held lines
+abbrev pub overlaid : List Line → List ℕ → List ℕ
+overlaid ls xs = laid 0 (heldAt ls) xs
+
 -- what is held once the bytes ys are written from the address a, as long as no line goes back
 abbrev pub written : (ℕ → Option ℕ) → ℕ → List ℕ → ℕ → Option ℕ
 written h a ys k = cond (named a (length ys) k) (Some (getD ys (k - a) 0)) (h k)

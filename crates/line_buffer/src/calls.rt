@@ -10,8 +10,9 @@ ghost use Rattle.std.specs.Results.{isOk};
 ghost use Rattle.std.specs.Vec.{made, refused as whenRefused};
 ghost use Rattle.std.specs.declared.result.Result.the-variants.{Ok, Err};
 ghost use Rattle.model.specs.Memory.{within, splice, AllDurable, Kept, Survived};
-ghost use Rattle.line_buffer.specs.Lines.{lineBytes, mostLines, numbers, heldAt, laid, missing, touched, safe, WroteBack};
+ghost use Rattle.line_buffer.specs.Lines.{lineBytes, mostLines, numbers, overlaid, missing, touched, safe, WroteBack};
 use crate::buffer::LineBuffer;
+use crate::line::MOST_LINES;
 use crate::table::room_for;
 use memory::Memory;
 use memory::range::fits;
@@ -25,7 +26,7 @@ impl<M: Memory> LineBuffer<M> {
         ensures made { λ r. ⌜ made r (λ b. (b .below ≡ below) × (vec-items (b .lines) ≡ [])) ⌝ }
         ensures refused { λ r. ⌜ whenRefused r (λ e. e .value ≡ below) ⌝ }
     {
-        match room_for(heap, 8) {
+        match room_for(heap, MOST_LINES) {
             Ok(lines) => Ok(LineBuffer { below, lines }),
             Err(_) => Err(Refused { value: below }),
         }
@@ -41,7 +42,7 @@ impl<M: Memory> LineBuffer<M> {
 
 pub impl<M: Memory> Memory for LineBuffer<M> as LineBufferMemory {
     // The bytes below with the held ones laid over them.
-    ghost bytes = { λ m. laid 0 (heldAt (vec-items (m .lines))) (M·Memory .bytes (m .below)) };
+    ghost bytes = { λ m. overlaid (vec-items (m .lines)) (M·Memory .bytes (m .below)) };
 
     // Durable below, and not written and held.
     ghost durable = { λ m. safe (vec-items (m .lines)) (M·Memory .durable (m .below)) };
@@ -60,8 +61,8 @@ pub impl<M: Memory> Memory for LineBuffer<M> as LineBufferMemory {
 
     /// Holds the bytes; lines go back only where more than eight are wanted.
     fn write(&mut self, at: usize, from: &[u8]) -> Result<(), Refusal>
-        ensures answer { λ r. ⌜ r ≡ cond (within (laid 0 (heldAt (vec-items (now (self .entry) .lines))) (M·Memory .bytes (now (self .entry) .below))) at (length (now (from .entry)))) (Ok tt) (Err Refusal.OutOfRange) ⌝ }
-        ensures bytes { λ r. ⌜ (laid 0 (heldAt (vec-items (now (self .exit) .lines))) (M·Memory .bytes (now (self .exit) .below))) ≡ cond (isOk r) (splice (laid 0 (heldAt (vec-items (now (self .entry) .lines))) (M·Memory .bytes (now (self .entry) .below))) at (now (from .entry))) (laid 0 (heldAt (vec-items (now (self .entry) .lines))) (M·Memory .bytes (now (self .entry) .below))) ⌝ }
+        ensures answer { λ r. ⌜ r ≡ cond (within (overlaid (vec-items (now (self .entry) .lines)) (M·Memory .bytes (now (self .entry) .below))) at (length (now (from .entry)))) (Ok tt) (Err Refusal.OutOfRange) ⌝ }
+        ensures bytes { λ r. ⌜ (overlaid (vec-items (now (self .exit) .lines)) (M·Memory .bytes (now (self .exit) .below))) ≡ cond (isOk r) (splice (overlaid (vec-items (now (self .entry) .lines)) (M·Memory .bytes (now (self .entry) .below))) at (now (from .entry))) (overlaid (vec-items (now (self .entry) .lines)) (M·Memory .bytes (now (self .entry) .below))) ⌝ }
         ensures kept { λ _. ⌜ Kept (safe (vec-items (now (self .entry) .lines)) (M·Memory .durable (now (self .entry) .below))) (safe (vec-items (now (self .exit) .lines)) (M·Memory .durable (now (self .exit) .below))) at (length (now (from .entry))) ⌝ }
         ensures refused { λ r. ⌜ (isOk r ≡ false → (k : ℕ) → (safe (vec-items (now (self .exit) .lines)) (M·Memory .durable (now (self .exit) .below))) k ≡ (safe (vec-items (now (self .entry) .lines)) (M·Memory .durable (now (self .entry) .below))) k) ⌝ }
         ensures lazy { λ r. ⌜ (isOk r ≡ true → length (vec-items (now (self .entry) .lines)) + missing (numbers (vec-items (now (self .entry) .lines))) (at / lineBytes) (touched at (length (now (from .entry)))) ≤ mostLines → now (self .exit) .below ≡ now (self .entry) .below) ⌝ }
@@ -77,10 +78,10 @@ pub impl<M: Memory> Memory for LineBuffer<M> as LineBufferMemory {
 
     /// Writes all held lines back and flushes the memory below.
     fn flush(&mut self)
-        ensures bytes { λ _. ⌜ (laid 0 (heldAt (vec-items (now (self .exit) .lines))) (M·Memory .bytes (now (self .exit) .below))) ≡ (laid 0 (heldAt (vec-items (now (self .entry) .lines))) (M·Memory .bytes (now (self .entry) .below))) ⌝ }
+        ensures bytes { λ _. ⌜ (overlaid (vec-items (now (self .exit) .lines)) (M·Memory .bytes (now (self .exit) .below))) ≡ (overlaid (vec-items (now (self .entry) .lines)) (M·Memory .bytes (now (self .entry) .below))) ⌝ }
         ensures durable { λ _. ⌜ AllDurable (safe (vec-items (now (self .exit) .lines)) (M·Memory .durable (now (self .exit) .below))) ⌝ }
         ensures lines { λ _. ⌜ (vec-items (now (self .exit) .lines)) ≡ [] ⌝ }
-        ensures below { λ _. ⌜ (M·Memory .bytes (now (self .exit) .below)) ≡ (laid 0 (heldAt (vec-items (now (self .entry) .lines))) (M·Memory .bytes (now (self .entry) .below))) ⌝ }
+        ensures below { λ _. ⌜ (M·Memory .bytes (now (self .exit) .below)) ≡ (overlaid (vec-items (now (self .entry) .lines)) (M·Memory .bytes (now (self .entry) .below))) ⌝ }
     {
         self.drain();
         self.below.flush();
@@ -88,7 +89,7 @@ pub impl<M: Memory> Memory for LineBuffer<M> as LineBufferMemory {
 
     /// Forgets the held lines, which power kept, and restarts the memory below.
     fn restart(&mut self)
-        ensures survived { λ _. ⌜ Survived (laid 0 (heldAt (vec-items (now (self .entry) .lines))) (M·Memory .bytes (now (self .entry) .below))) (safe (vec-items (now (self .entry) .lines)) (M·Memory .durable (now (self .entry) .below))) (laid 0 (heldAt (vec-items (now (self .exit) .lines))) (M·Memory .bytes (now (self .exit) .below))) ⌝ }
+        ensures survived { λ _. ⌜ Survived (overlaid (vec-items (now (self .entry) .lines)) (M·Memory .bytes (now (self .entry) .below))) (safe (vec-items (now (self .entry) .lines)) (M·Memory .durable (now (self .entry) .below))) (overlaid (vec-items (now (self .exit) .lines)) (M·Memory .bytes (now (self .exit) .below))) ⌝ }
         ensures durable { λ _. ⌜ AllDurable (safe (vec-items (now (self .exit) .lines)) (M·Memory .durable (now (self .exit) .below))) ⌝ }
         ensures lines { λ _. ⌜ (vec-items (now (self .exit) .lines)) ≡ [] ⌝ }
         ensures below { λ _. ⌜ Survived (M·Memory .bytes (now (self .entry) .below)) (M·Memory .durable (now (self .entry) .below)) (M·Memory .bytes (now (self .exit) .below)) ⌝ }

@@ -12,8 +12,11 @@ ghost use Rattle.std.specs.Vec.{made};
 ghost use Rattle.std.specs.Of.Vec.{vec-items, vec-len, vec-cap};
 ghost use Rattle.std.specs.declared.option.Option.the-variants.{Some, None};
 ghost use Rattle.model.specs.Memory.{splice, named};
+ghost use Rattle.model.specs.Numbers.{mostBytes};
 ghost use Rattle.line_buffer.specs.Lines.{lineBytes, mostLines, numbers, member, apart, cellAt, heldAt, laid, written, takes};
+use crate::line::LINE_BYTES;
 use crate::line::Line;
+use crate::line::MOST_LINES;
 use std::alloc::AllocError;
 use std::alloc::Global;
 
@@ -25,7 +28,7 @@ impl Line {
     {
         Line {
             number,
-            cells: [None; 16],
+            cells: [None; LINE_BYTES],
         }
     }
 
@@ -46,8 +49,13 @@ impl Line {
     pub(crate) fn lay(self, at: usize, out: &mut [u8])
         ensures { λ _. ⌜ now (out .exit) ≡ laid at (cellAt self) (now (out .entry)) ⌝ }
     {
-        for c in 0..16 {
-            lay_cell(self.cells[c], self.number as usize * 16 + c, at, out);
+        for c in 0..LINE_BYTES {
+            lay_cell(
+                self.cells[c],
+                self.number as usize * LINE_BYTES + c,
+                at,
+                out,
+            );
         }
     }
 }
@@ -98,7 +106,7 @@ pub(crate) fn has_place(lines: &[Line], number: u8) -> bool
 {
     match find(lines, number) {
         Some(_) => true,
-        None => lines.len() < 8,
+        None => lines.len() < MOST_LINES,
     }
 }
 
@@ -116,7 +124,7 @@ pub(crate) fn oldest_outside(lines: &[Line], first: u8, last: u8) -> Option<usiz
 
 /// Writes bytes that lie within one line, which is given a place if it has none.
 pub(crate) fn hold(lines: &mut Vec<Line>, at: usize, from: &[u8])
-    requires address { ⌜ at < 4096 ⌝ }
+    requires address { ⌜ at < mostBytes ⌝ }
     requires inside { ⌜ at % lineBytes + length (now from) ≤ lineBytes ⌝ }
     requires distinct { ⌜ apart (numbers (vec-items (now lines))) ≡ true ⌝ }
     requires room { ⌜ takes (numbers (vec-items (now lines))) (at / lineBytes) ≡ true ⌝ }
@@ -128,12 +136,12 @@ pub(crate) fn hold(lines: &mut Vec<Line>, at: usize, from: &[u8])
     ensures few { λ _. ⌜ vec-len (now (lines .exit)) ≤ mostLines ⌝ }
     ensures capacity { λ _. ⌜ vec-cap (now (lines .exit)) ≡ vec-cap (now (lines .entry)) ⌝ }
 {
-    let number = (at / 16) as u8;
+    let number = (at / LINE_BYTES) as u8;
     match find(lines.as_slice(), number) {
         Some(i) => {
-            let line = lines[i].with(at % 16, from);
+            let line = lines[i].with(at % LINE_BYTES, from);
             lines[i] = line;
         }
-        None => lines.push_reserved(Line::blank(number).with(at % 16, from)),
+        None => lines.push_reserved(Line::blank(number).with(at % LINE_BYTES, from)),
     }
 }

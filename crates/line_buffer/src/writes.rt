@@ -11,8 +11,9 @@ ghost use Rattle.std.specs.Of.Vec.{vec-items, vec-len};
 ghost use Rattle.std.specs.declared.option.Option.the-variants.{None};
 ghost use Rattle.model.specs.Memory.{part, splice, AllDurable, Kept, Survived};
 ghost use Rattle.model.specs.Numbers.{mostBytes};
-ghost use Rattle.line_buffer.specs.Lines.{lineBytes, mostLines, numbers, cellAt, heldAt, laid, written, takes, missing, touched, safe, WroteBack, Wrote};
+ghost use Rattle.line_buffer.specs.Lines.{lineBytes, mostLines, numbers, cellAt, heldAt, laid, overlaid, written, takes, missing, touched, safe, WroteBack, Wrote};
 use crate::buffer::LineBuffer;
+use crate::line::LINE_BYTES;
 use crate::line::Line;
 use crate::table::has_place;
 use crate::table::hold;
@@ -35,8 +36,8 @@ fn write_back<M: Memory>(below: &mut M, line: Line)
     ensures bytes { λ _. ⌜ bytes (now (below .exit)) ≡ laid 0 (cellAt line) (bytes (now (below .entry))) ⌝ }
     ensures durable { λ _. ⌜ ((k : ℕ) → cellAt line k ≡ None → durable (now (below .entry)) k ≡ true → durable (now (below .exit)) k ≡ true) ⌝ }
 {
-    for c in 0..16 {
-        write_cell(below, line.number as usize * 16 + c, line.cells[c]);
+    for c in 0..LINE_BYTES {
+        write_cell(below, line.number as usize * LINE_BYTES + c, line.cells[c]);
     }
 }
 
@@ -54,14 +55,14 @@ impl<M: Memory> LineBuffer<M> {
 
     /// Writes bytes that lie within one line; the lines after it up to `last` are still to be written.
     fn put(&mut self, at: usize, from: &[u8], last: u8)
-        requires address { ⌜ at < 4096 ⌝ }
+        requires address { ⌜ at < mostBytes ⌝ }
         requires inside { ⌜ at % lineBytes + length (now from) ≤ lineBytes ⌝ }
         requires range { ⌜ at + length (now from) ≤ length (bytes (now self .below)) ⌝ }
         ensures back { λ _. ⌜ Wrote (vec-items (now (self .entry) .lines)) (bytes (now (self .entry) .below)) at (now (from .entry)) 1 last (vec-items (now (self .exit) .lines)) (bytes (now (self .exit) .below)) ⌝ }
         ensures lazy { λ _. ⌜ (takes (numbers (vec-items (now (self .entry) .lines))) (at / lineBytes) ≡ true → now (self .exit) .below ≡ now (self .entry) .below) ⌝ }
         ensures durable { λ _. ⌜ ((k : ℕ) → written (heldAt (vec-items (now (self .entry) .lines))) at (now (from .entry)) k ≡ None → durable (now (self .entry) .below) k ≡ true → durable (now (self .exit) .below) k ≡ true) ⌝ }
     {
-        if has_place(self.lines.as_slice(), (at / 16) as u8) {
+        if has_place(self.lines.as_slice(), (at / LINE_BYTES) as u8) {
             hold(&mut self.lines, at, from);
         } else {
             self.put_over(at, from, last);
@@ -71,14 +72,14 @@ impl<M: Memory> LineBuffer<M> {
     /// Writes bytes of a line for which there is no place: the oldest line that is not still to be written goes
     /// back for it, or, if all are, the bytes themselves.
     fn put_over(&mut self, at: usize, from: &[u8], last: u8)
-        requires address { ⌜ at < 4096 ⌝ }
+        requires address { ⌜ at < mostBytes ⌝ }
         requires inside { ⌜ at % lineBytes + length (now from) ≤ lineBytes ⌝ }
         requires range { ⌜ at + length (now from) ≤ length (bytes (now self .below)) ⌝ }
         requires full { ⌜ takes (numbers (vec-items (now self .lines))) (at / lineBytes) ≡ false ⌝ }
         ensures back { λ _. ⌜ Wrote (vec-items (now (self .entry) .lines)) (bytes (now (self .entry) .below)) at (now (from .entry)) 1 last (vec-items (now (self .exit) .lines)) (bytes (now (self .exit) .below)) ⌝ }
         ensures durable { λ _. ⌜ ((k : ℕ) → written (heldAt (vec-items (now (self .entry) .lines))) at (now (from .entry)) k ≡ None → durable (now (self .entry) .below) k ≡ true → durable (now (self .exit) .below) k ≡ true) ⌝ }
     {
-        match oldest_outside(self.lines.as_slice(), (at / 16) as u8, last) {
+        match oldest_outside(self.lines.as_slice(), (at / LINE_BYTES) as u8, last) {
             Some(i) => {
                 self.evict(i);
                 hold(&mut self.lines, at, from);
@@ -91,9 +92,9 @@ impl<M: Memory> LineBuffer<M> {
 
     /// Writes bytes line by line.
     pub(crate) fn put_all(&mut self, at: usize, from: &[u8])
-        requires range { ⌜ at + length (now from) ≤ length (laid 0 (heldAt (vec-items (now self .lines))) (bytes (now self .below))) ⌝ }
-        requires bound { ⌜ length (laid 0 (heldAt (vec-items (now self .lines))) (bytes (now self .below))) ≤ mostBytes ⌝ }
-        ensures bytes { λ _. ⌜ (laid 0 (heldAt (vec-items (now (self .exit) .lines))) (bytes (now (self .exit) .below))) ≡ splice (laid 0 (heldAt (vec-items (now (self .entry) .lines))) (bytes (now (self .entry) .below))) at (now (from .entry)) ⌝ }
+        requires range { ⌜ at + length (now from) ≤ length (overlaid (vec-items (now self .lines)) (bytes (now self .below))) ⌝ }
+        requires bound { ⌜ length (overlaid (vec-items (now self .lines)) (bytes (now self .below))) ≤ mostBytes ⌝ }
+        ensures bytes { λ _. ⌜ (overlaid (vec-items (now (self .exit) .lines)) (bytes (now (self .exit) .below))) ≡ splice (overlaid (vec-items (now (self .entry) .lines)) (bytes (now (self .entry) .below))) at (now (from .entry)) ⌝ }
         ensures kept { λ _. ⌜ Kept (safe (vec-items (now (self .entry) .lines)) (durable (now (self .entry) .below))) (safe (vec-items (now (self .exit) .lines)) (durable (now (self .exit) .below))) at (length (now (from .entry))) ⌝ }
         ensures back { λ _. ⌜ WroteBack (vec-items (now (self .entry) .lines)) (bytes (now (self .entry) .below)) at (now (from .entry)) (touched at (length (now (from .entry)))) (vec-items (now (self .exit) .lines)) (bytes (now (self .exit) .below)) ⌝ }
         ensures lazy { λ _. ⌜ (length (vec-items (now (self .entry) .lines)) + missing (numbers (vec-items (now (self .entry) .lines))) (at / lineBytes) (touched at (length (now (from .entry)))) ≤ mostLines → now (self .exit) .below ≡ now (self .entry) .below) ⌝ }
@@ -102,18 +103,18 @@ impl<M: Memory> LineBuffer<M> {
         if from.is_empty() {
             return;
         }
-        let last = (at + from.len() - 1) / 16;
-        for number in at / 16..last + 1 {
-            let start = at.max(number * 16);
-            let end = (at + from.len()).min(number * 16 + 16);
+        let last = (at + from.len() - 1) / LINE_BYTES;
+        for number in at / LINE_BYTES..last + 1 {
+            let start = at.max(number * LINE_BYTES);
+            let end = (at + from.len()).min(number * LINE_BYTES + LINE_BYTES);
             self.put(start, &from[start - at..end - at], last as u8);
         }
     }
 
     /// Reads from below and lays the held bytes over it.
     pub(crate) fn fetch(&self, at: usize, out: &mut [u8])
-        requires { ⌜ at + length (now out) ≤ length (laid 0 (heldAt (vec-items (now self .lines))) (bytes (now self .below))) ⌝ }
-        ensures { λ _. ⌜ now (out .exit) ≡ part (laid 0 (heldAt (vec-items (now (self .entry) .lines))) (bytes (now (self .entry) .below))) at (length (now (out .entry))) ⌝ }
+        requires { ⌜ at + length (now out) ≤ length (overlaid (vec-items (now self .lines)) (bytes (now self .below))) ⌝ }
+        ensures { λ _. ⌜ now (out .exit) ≡ part (overlaid (vec-items (now (self .entry) .lines)) (bytes (now (self .entry) .below))) at (length (now (out .entry))) ⌝ }
     {
         let _ = self.below.read(at, out);
         overlay(self.lines.as_slice(), at, out);
@@ -122,8 +123,8 @@ impl<M: Memory> LineBuffer<M> {
     /// Writes all lines back, so that the memory below shows by itself and its bytes are as durable as they are there.
     pub(crate) fn drain(&mut self)
         ensures lines { λ _. ⌜ vec-items (now (self .exit) .lines) ≡ [] ⌝ }
-        ensures bytes { λ _. ⌜ bytes (now (self .exit) .below) ≡ laid 0 (heldAt (vec-items (now (self .entry) .lines))) (bytes (now (self .entry) .below)) ⌝ }
-        ensures shown { λ _. ⌜ ((ys : List ℕ) → laid 0 (heldAt (vec-items (now (self .exit) .lines))) ys ≡ ys) ⌝ }
+        ensures bytes { λ _. ⌜ bytes (now (self .exit) .below) ≡ overlaid (vec-items (now (self .entry) .lines)) (bytes (now (self .entry) .below)) ⌝ }
+        ensures shown { λ _. ⌜ ((ys : List ℕ) → overlaid (vec-items (now (self .exit) .lines)) ys ≡ ys) ⌝ }
         ensures free { λ _. ⌜ ((d : ℕ → Bool) → AllDurable d → AllDurable (safe (vec-items (now (self .exit) .lines)) d)) ⌝ }
     {
         while !self.lines.is_empty() {
@@ -136,7 +137,7 @@ impl<M: Memory> LineBuffer<M> {
         ensures lines { λ _. ⌜ vec-items (now (self .exit) .lines) ≡ [] ⌝ }
         ensures below { λ _. ⌜ now (self .exit) .below ≡ now (self .entry) .below ⌝ }
         ensures free { λ _. ⌜ ((d : ℕ → Bool) → AllDurable d → AllDurable (safe (vec-items (now (self .exit) .lines)) d)) ⌝ }
-        ensures survivors { λ _. ⌜ ((ys : List ℕ) → Survived (bytes (now (self .exit) .below)) (durable (now (self .exit) .below)) ys → Survived (laid 0 (heldAt (vec-items (now (self .entry) .lines))) (bytes (now (self .entry) .below))) (safe (vec-items (now (self .entry) .lines)) (durable (now (self .entry) .below))) (laid 0 (heldAt (vec-items (now (self .exit) .lines))) ys)) ⌝ }
+        ensures survivors { λ _. ⌜ ((ys : List ℕ) → Survived (bytes (now (self .exit) .below)) (durable (now (self .exit) .below)) ys → Survived (overlaid (vec-items (now (self .entry) .lines)) (bytes (now (self .entry) .below))) (safe (vec-items (now (self .entry) .lines)) (durable (now (self .entry) .below))) (overlaid (vec-items (now (self .exit) .lines)) ys)) ⌝ }
         ensures under { λ _. ⌜ ((ys : List ℕ) → Survived (bytes (now (self .exit) .below)) (durable (now (self .exit) .below)) ys → Survived (bytes (now (self .entry) .below)) (durable (now (self .entry) .below)) ys) ⌝ }
     {
         self.lines.clear();

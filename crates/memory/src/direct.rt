@@ -6,6 +6,7 @@ ghost use mathlib.Core.Bool.{true};
 ghost use Rattle.std.specs.Of.Vec.{vec-items, vec-len};
 ghost use Rattle.model.specs.Numbers.{mostBytes};
 ghost use Rattle.model.specs.Memory.{capped, AllDurable, Survived};
+use crate::MOST_BYTES;
 use crate::Memory;
 use crate::range::fits;
 use crate::range::overwrite;
@@ -23,7 +24,7 @@ impl DirectMemory {
     pub fn new(mut given: Vec<u8>) -> DirectMemory
         ensures { λ r. ⌜ vec-items (r .content) ≡ capped (vec-items given) ⌝ }
     {
-        if given.len() > 4096 {
+        if given.len() > MOST_BYTES {
             given.clear();
         }
         DirectMemory { content: given }

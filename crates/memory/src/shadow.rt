@@ -10,6 +10,7 @@ ghost use Rattle.std.specs.declared.result.Result.the-variants.{Ok, Err};
 ghost use Rattle.model.specs.Numbers.{mostBytes};
 ghost use Rattle.model.specs.Memory.{within, paired, splice, AllDurable, Kept, Survived};
 ghost use Rattle.memory.specs.Shadow.{agree};
+use crate::MOST_BYTES;
 use crate::Memory;
 use crate::range::fits;
 use crate::range::overwrite;
@@ -31,7 +32,7 @@ impl ShadowMemory {
         ensures working { λ r. ⌜ vec-items (r .working) ≡ paired (vec-items working) (vec-items image) ⌝ }
         ensures image { λ r. ⌜ vec-items (r .image) ≡ paired (vec-items image) (vec-items working) ⌝ }
     {
-        if working.len() != image.len() || working.len() > 4096 {
+        if working.len() != image.len() || working.len() > MOST_BYTES {
             working.clear();
             image.clear();
         }

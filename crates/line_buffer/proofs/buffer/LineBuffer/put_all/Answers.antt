@@ -10,7 +10,7 @@ use Rattle.std.proofs.shelf.Lists.{take-all}
 use Rattle.std.proofs.shelf.Tests.{eqb-true, eqb-false}
 use Rattle.line_buffer.specs.Lines.{lineBytes, mostLines, numbers, heldAt, written, missing, touched, WroteBack}
 use Rattle.line_buffer.proofs.Laid.{length-laid}
-use Rattle.line_buffer.proofs.Put.{wrote-bytes, wrote-kept, wrote-start, wrote-empty, wrote-next, wrote-length, place-next, unheld-next, length-piece, piece-fits, touched-some}
+use Rattle.line_buffer.proofs.Wrote.{wrote-bytes, wrote-kept, wrote-start, wrote-empty, wrote-next, wrote-length, place-next, unheld-next, length-piece, piece-fits, touched-some}
 use Rattle.line_buffer.proofs.buffer.LineBuffer.put_all.Needs as need
 
 some : (n : ℕ) → (n ≡ 0 → ⊥) → 0 < n
