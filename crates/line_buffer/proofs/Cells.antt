@@ -12,13 +12,13 @@ use Rattle.std.specs.declared.option.Option.the-variants.{Some, None}
 use Rattle.std.proofs.shelf.Lists.{map-more, getD-map, length-map, length-take-le}
 use Rattle.std.proofs.shelf.Tests.{cases-eq, cases-lt, cond-true, cond-false, and-left, and-right, and-from, eq-eqb, ne-eqb, le-leb, lt-leb, lt-ltb, le-ltb}
 use Rattle.model.specs.Memory.{splice, named}
-use Rattle.memory.proofs.Splice.{splice-more, getD-splice-below, getD-splice-inside, getD-splice-above}
+use Rattle.model.proofs.Splices.{splice-set, getD-splice-below, getD-splice-inside, getD-splice-above}
 use Rattle.line_buffer.specs.Lines.{lineBytes, written}
 
 pub with-more : (cs : List (Option ℕ)) (o i : ℕ) (bs : List ℕ) → o + length bs ≤ length cs → i < length bs → set (splice cs o (map Some (take i bs))) (o + i) (Some (getD bs i 0)) ≡ splice cs o (map Some (take (i + 1) bs))
 with-more cs o i bs fit h =
     let n : length (map Some (take i bs)) ≡ i = length-map (take i bs) Some ∙ length-take-le i bs (omega arith) in
-    let s = splice-more cs o (map Some (take i bs)) (omega arith) (Some (getD bs i 0)) (omega arith) in
+    let s = splice-set cs o (map Some (take i bs)) (omega arith) (Some (getD bs i 0)) (omega arith) in
     ap (λ j. set (splice cs o (map Some (take i bs))) (o + j) (Some (getD bs i 0))) (sym n) ∙ s ∙ ap (splice cs o) (sym (map-more Some bs i 0 h))
 
 -- an address of another line is not among those of bytes that lie within one line

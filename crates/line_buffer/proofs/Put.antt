@@ -15,7 +15,7 @@ use Rattle.std.proofs.shelf.Lists.{length-append, length-map}
 use Rattle.std.proofs.shelf.Edits.{length-removed}
 use Rattle.std.proofs.shelf.Tests.{cases-eq, cases-bool, both-ways, lt-ltb, cond-true, cond-false, eq-eqb, ne-eqb, or-right}
 use Rattle.model.specs.Memory.{splice}
-use Rattle.memory.proofs.Splice.{length-splice, getD-splice-below, getD-splice-inside, getD-splice-above}
+use Rattle.model.proofs.Splices.{length-splice, getD-splice-below, getD-splice-inside, getD-splice-above}
 use Rattle.line_buffer.specs.declared.line.Line.{Line}
 use Rattle.line_buffer.specs.Lines.{lineBytes, mostLines, lineNumber, numbers, member, apart, heldAt, laid, written, takes, Wrote}
 use Rattle.line_buffer.proofs.Distinct.{getD-member, member-none, member-one, member-push, member-removed-other, member-removed-less}

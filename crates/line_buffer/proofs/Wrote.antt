@@ -13,7 +13,7 @@ use Rattle.std.proofs.shelf.Lists.{length-append, length-map, length-take-le, l
 use Rattle.std.proofs.shelf.Parts.{between-is}
 use Rattle.std.proofs.shelf.Tests.{cases-lt, cases-bool, both-ways, lt-ltb, cond-false, ne-eqb, or-from, or-left, or-right, not-true, not-from-false, and-parts, and-from}
 use Rattle.model.specs.Memory.{splice, Kept}
-use Rattle.memory.proofs.Splice.{length-splice, getD-splice-below, getD-splice-inside, getD-splice-above}
+use Rattle.model.proofs.Splices.{length-splice, getD-splice-below, getD-splice-inside, getD-splice-above}
 use Rattle.line_buffer.specs.declared.line.Line.{Line}
 use Rattle.line_buffer.specs.Lines.{lineBytes, mostLines, lineNumber, numbers, member, heldAt, laid, written, missing, touched, takes, safe, WroteBack, Ahead, Wrote}
 use Rattle.line_buffer.proofs.Distinct.{member-append}

@@ -1,3 +1,2 @@
-pub mod Splice
 pub mod Survivors
 pub mod Answered

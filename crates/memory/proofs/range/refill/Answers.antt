@@ -1,5 +1,5 @@
 use borrow.Author.Needs.{needs}
-use Rattle.memory.proofs.Splice.{splice-whole}
+use Rattle.model.proofs.Splices.{splice-whole}
 use Rattle.memory.proofs.range.refill.Needs as need
 
 pub returns : need.returns

@@ -9,7 +9,7 @@ use Rattle.std.specs.declared.result.Result.the-variants.{Ok}
 use Rattle.model.specs.Memory.{within, splice}
 use Rattle.model.specs.declared.refusal.Refusal.the-variants.{OutOfRange}
 use Rattle.memory.proofs.Answered.{done-within}
-use Rattle.memory.proofs.Splice.{length-splice, part-splice}
+use Rattle.model.proofs.Splices.{length-splice, part-splice}
 use Rattle.memory.proofs.Survivors.{survived-all}
 use Rattle.memory.proofs.survive.write_and_survive.Needs as need
 

@@ -7,7 +7,7 @@ use lib.ListN.{length, getD, set, take}
 use Rattle.std.specs.declared.option.Option.the-variants.{Some}
 use Rattle.std.proofs.shelf.Lists.{take-all}
 use Rattle.model.specs.Memory.{splice}
-use Rattle.memory.proofs.Splice.{splice-none}
+use Rattle.model.proofs.Splices.{splice-none}
 use Rattle.line_buffer.proofs.Cells.{with-more}
 use Rattle.line_buffer.proofs.line.Line.with.Needs as need
 
