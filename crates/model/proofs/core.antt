@@ -1,0 +1,7 @@
+-- The proof of the laws on an abstract core, in reading order.
+pub mod Lists
+pub mod State
+pub mod Facts
+pub mod Network
+pub mod Log
+pub mod Agreement
