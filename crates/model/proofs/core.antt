@@ -5,3 +5,5 @@ pub mod Facts
 pub mod Network
 pub mod Log
 pub mod Agreement
+pub mod YesEntry
+pub mod NodeChange
