@@ -7,3 +7,6 @@ pub mod Log
 pub mod Agreement
 pub mod YesEntry
 pub mod NodeChange
+pub mod Replay
+pub mod Memories
+pub mod YesEntryMemories

@@ -191,6 +191,11 @@ every-map f g h (x ∷ xs) k =
     let p = and-parts (f x) (every f xs) k in
     and-from (g x) (every g xs) (h x (p .0)) (every-map f g h xs (p .1))
 
+pub every-same : (f g : ℕ → Bool) → ((q : ℕ) → f q ≡ g q) → (qs : List ℕ) → every f qs ≡ every g qs
+unfolding every
+every-same f g h [] = refl
+every-same f g h (x ∷ xs) = rw (h x, every-same f g h xs) refl
+
 -- g holds of all, f not: it fails somewhere
 pub every-fails : (f g : ℕ → Bool) (qs : List ℕ) → every f qs ≡ false → every g qs ≡ true → (q : ℕ) × (has q qs ≡ true) × (f q ≡ false) × (g q ≡ true)
 unfolding every has
