@@ -10,3 +10,5 @@ pub mod NodeChange
 pub mod Replay
 pub mod Memories
 pub mod YesEntryMemories
+pub mod NodeChangeMemories
+pub mod NetworkChange

@@ -205,11 +205,9 @@ serial B s q b = after B (s .past .made) (serial-run B (s .past .log)) q b
 abbrev pub with-node : {V : Type 0} → State V → ℕ → Node V → State V
 with-node s q k = record { nodes = update (s .nodes) q k; network = s .network; notes = s .notes; next = s .next; past = s .past }
 
-abbrev pub with-network : {V : Type 0} → State V → List Claim → List Claim → ℕ → State V
-with-network s ms ns x = record { nodes = s .nodes; network = ms; notes = ns; next = x; past = s .past }
-
-abbrev pub with-verdicts : {V : Type 0} → State V → List Verdict → State V
-with-verdicts s vs = record { nodes = s .nodes; network = s .network; notes = s .notes; next = s .next; past = record { made = s .past .made; log = s .past .log; verdicts = vs } }
+-- the messages under way, the notes, the next tid and the verdicts given change
+abbrev pub with-network : {V : Type 0} → State V → List Claim → List Claim → ℕ → List Verdict → State V
+with-network s ms ns x vs = record { nodes = s .nodes; network = ms; notes = ns; next = x; past = record { made = s .past .made; log = s .past .log; verdicts = vs } }
 
 -- the past after node q, seeing its memory m, wrote its yes entry of n
 abbrev pub with-yes : {V : Type 0} → Past V → ℕ → ℕ → (ℕ → V) → Past V
