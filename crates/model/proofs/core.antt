@@ -12,3 +12,6 @@ pub mod Memories
 pub mod YesEntryMemories
 pub mod NodeChangeMemories
 pub mod NetworkChange
+pub mod Outcomes
+pub mod KeptEntries
+pub mod Writes
