@@ -15,3 +15,5 @@ pub mod NetworkChange
 pub mod Outcomes
 pub mod KeptEntries
 pub mod Writes
+pub mod Finish
+pub mod Restart
