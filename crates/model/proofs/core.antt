@@ -17,3 +17,6 @@ pub mod KeptEntries
 pub mod Writes
 pub mod Finish
 pub mod Restart
+pub mod Again
+pub mod Checkpoint
+pub mod Collect
