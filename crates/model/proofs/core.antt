@@ -20,3 +20,4 @@ pub mod Restart
 pub mod Again
 pub mod Checkpoint
 pub mod Collect
+pub mod Resume
