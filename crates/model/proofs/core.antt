@@ -21,3 +21,7 @@ pub mod Again
 pub mod Checkpoint
 pub mod Collect
 pub mod Resume
+pub mod Justify
+pub mod Laws
+pub mod Start
+pub mod Moves

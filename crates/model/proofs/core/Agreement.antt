@@ -7,7 +7,7 @@ use mathlib.Core.List.{List, [], _∷_, _++_}
 use native.Mathlib.Omega.{arith}
 use Rattle.std.specs.shelf.Lists.{All}
 use Rattle.std.proofs.shelf.Tests.{both-ways, cases-lt}
-use Rattle.model.proofs.core.Lists.{has, Some, all-map, all-two, all-some, some-all}
+use Rattle.model.proofs.core.Lists.{has, Some, Pairs, all-map, all-two, all-some, some-all}
 use Rattle.model.proofs.core.State.{Book, Outcome, absent, present, Entry, Node, Claim, prepares, Verdict, State, voted-yes}
 use Rattle.model.proofs.core.Facts.{Committed, Dead, Settled, Over, Ended, Known, Justified, OutcomeRight, VerdictRight, EntryRight}
 
@@ -23,6 +23,8 @@ pub record Agreement {V : Type 0} (B : Book V) (s : State V) : Type 0 where
   -- prepares: none once the node has voted yes, never two
   pub prepare-spent : (n q : ℕ) → voted-yes s n q ≡ true → prepares n q (s .network) ≡ 0
   pub prepare-once : (n q : ℕ) → prepares n q (s .network) ≤ 1
+  -- no node writes two yes entries of one tid
+  pub yes-once : Pairs (λ y z. y .tid ≡ z .tid → y .place ≡ z .place → ⊥) (s .past .log)
   -- nothing speaks of a tid that was not given
   pub unopened : (n q : ℕ) → s .next ≤ n → (prepares n q (s .network) ≡ 0) × (voted-yes s n q ≡ false)
   pub messages : All (Justified B s) (s .network)

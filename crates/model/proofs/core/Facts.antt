@@ -8,7 +8,7 @@ use native.Mathlib.Omega.{arith}
 use Rattle.std.specs.shelf.Lists.{All}
 use Rattle.std.proofs.shelf.Tests.{both-ways}
 use Rattle.model.proofs.core.Lists.{has, every, every-has, every-map, all-map, all-some, Some}
-use Rattle.model.proofs.core.State.{Book, Outcome, absent, present, Entry, Node, Claim, prepare-to, vote-of, finish-as, inquiry-to, reply-of, query-to, settled-at, outcome-is, prepares, Verdict, State, committed, voted-yes, saw-at}
+use Rattle.model.proofs.core.State.{Book, Outcome, absent, present, Entry, Node, Claim, prepare-to, vote-of, finish-as, inquiry-to, reply-of, query-to, settled-at, outcome-is, silent, prepares, Verdict, State, committed, voted-yes, saw-at}
 
 -- ## A node that can no longer vote yes
 
@@ -71,6 +71,7 @@ module _ {V : Type 0} (B : Book V) (s : State V) where
   Justified (query-to n q) = (Dead n ⊎ Committed n) × (has q (B n .participants) ≡ true)
   Justified (settled-at n q) = Dead n ⊎ ((voted-yes s n q ≡ true) × Settled n q)
   Justified (outcome-is n v) = Known n v
+  Justified silent = Unit {0}
 
   abbrev pub OutcomeRight : ℕ → Outcome → Type 0
   OutcomeRight n absent = Unit {0}
@@ -140,6 +141,7 @@ module _ {V : Type 0} (B : Book V) (s t : State V) (x : Extends B s t) where
   justified-stays (settled-at n q) (inl d) = inl (x .dead n d)
   justified-stays (settled-at n q) (inr c) = inr (x .wrote n q (c .0), x .settled n q (c .0) (c .1))
   justified-stays (outcome-is n v) j = known-stays n v j
+  justified-stays silent j = j
 
   pub all-justified-stays : (ms : List Claim) → All (Justified B s) ms → All (Justified B t) ms
   all-justified-stays = all-map (Justified B s) (Justified B t) justified-stays

@@ -5,7 +5,8 @@ use mathlib.Core.Bool.{Bool, true, false, cond, _&&_, _||_}
 use mathlib.Core.Logic.{_⊎_, inl, inr}
 use mathlib.Core.List.{List, [], _∷_, _++_}
 use lib.Dec.{eqb}
-use Rattle.std.proofs.shelf.Tests.{cases-eq, ne-eqb, eq-eqb, and-left, and-right}
+use Rattle.std.specs.shelf.Lists.{All}
+use Rattle.std.proofs.shelf.Tests.{cases-eq, both-ways, ne-eqb, eq-eqb, and-left, and-right, and-from, or-parts}
 use Rattle.model.proofs.core.State.{Yes, logged, seen}
 
 -- the yes entry of n at q, or another one
@@ -42,6 +43,17 @@ module _ {V : Type 0} (ys : List (Yes V)) (n q : ℕ) (m : ℕ → V) where
       go : (((k ≡ n) × (p ≡ q)) ⊎ (k ≡ n → p ≡ q → ⊥)) → logged more k p ≡ true
       go (inl e) = rw (e .0, e .1) logged-here
       go (inr e) = rw (logged-other k p e) h
+
+  -- no such entry stands in the log
+  pub logged-not : logged ys n q ≡ false → All (λ y. n ≡ y .tid → q ≡ y .place → ⊥) ys
+  unfolding logged
+  logged-not = go ys
+    where
+      go : (zs : List (Yes V)) → logged zs n q ≡ false → All (λ y. n ≡ y .tid → q ≡ y .place → ⊥) zs
+      go [] h = tt
+      go (y ∷ zs) h =
+          let p = or-parts (eqb n (y .tid) && eqb q (y .place)) (logged zs n q) h in
+          ((λ e f. both-ways (eqb n (y .tid) && eqb q (y .place)) (p .0) (and-from (eqb n (y .tid)) (eqb q (y .place)) (eq-eqb n (y .tid) e) (eq-eqb q (y .place) f))), go zs (p .1))
 
   pub seen-here : (M : ℕ → ℕ → V) → seen M more n q ≡ m
   unfolding seen

@@ -47,6 +47,7 @@ module _ {V : Type 0} (B : Book V) (s : State V) (v : Agreement B s) (ms ns : Li
   agreement = record {
     prepare-spent = λ n q h. omega (arith, v .prepare-spent n q h, g .fewer n q (voted-opened B s v n q h));
     prepare-once = g .once;
+    yes-once = v .yes-once;
     unopened = λ n q l. (g .unopened n q l, v .unopened n q (omega (arith, g .later, l)) .1);
     messages = g .messages extends;
     notes = g .notes extends;

@@ -70,6 +70,7 @@ module _ {V : Type 0} (B : Book V) (s : State V) (v : Agreement B s) (q : ℕ) (
   agreement = record {
     prepare-spent = v .prepare-spent;
     prepare-once = v .prepare-once;
+    yes-once = v .yes-once;
     unopened = v .unopened;
     messages = all-justified-stays B s t extends (s .network) (v .messages);
     notes = all-justified-stays B s t extends (s .notes) (v .notes);

@@ -115,6 +115,7 @@ pub data Claim : Type 0 where
   query-to : ℕ → ℕ → Claim  -- tid, node
   settled-at : ℕ → ℕ → Claim  -- tid, node
   outcome-is : ℕ → Bool → Claim  -- tid, whether committed: an outcome noted, resolved or decided
+  silent : Claim  -- what nobody relies on
 
 unfoldable pub prepares-in : ℕ → ℕ → Claim → ℕ
 prepares-in n q (prepare-to m p) = cond (eqb m n && eqb p q) 1 0
@@ -125,6 +126,7 @@ prepares-in n q (reply-of m p v) = 0
 prepares-in n q (query-to m p) = 0
 prepares-in n q (settled-at m p) = 0
 prepares-in n q (outcome-is m v) = 0
+prepares-in n q silent = 0
 
 -- how many prepares of n to node q are under way
 unfoldable pub prepares : ℕ → ℕ → List Claim → ℕ
@@ -165,10 +167,10 @@ unfoldable pub seen : {V : Type 0} → (ℕ → ℕ → V) → List (Yes V) → 
 seen M [] n q = M q
 seen M (y ∷ ys) n q = cond (eqb n (y .tid) && eqb q (y .place)) (y .saw) (seen M ys n q)
 
--- the committed minitransactions in the order of their last yes entries, the latest first
+-- the committed minitransactions, the latest first: the turn of each comes with the yes entry that makes it committed
 unfoldable pub serial-run : {V : Type 0} → Book V → List (Yes V) → List ℕ
 serial-run B [] = []
-serial-run B (y ∷ ys) = cond (committed B (y ∷ ys) (y .tid)) (y .tid ∷ serial-run B ys) (serial-run B ys)
+serial-run B (y ∷ ys) = cond (committed B (y ∷ ys) (y .tid) && not (committed B ys (y .tid))) (y .tid ∷ serial-run B ys) (serial-run B ys)
 
 -- the memories after minitransactions taken one by one, the latest first
 unfoldable pub after : {V : Type 0} → Book V → (ℕ → ℕ → V) → List ℕ → ℕ → ℕ → V

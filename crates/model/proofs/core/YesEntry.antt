@@ -7,11 +7,11 @@ use mathlib.Core.List.{List, [], _∷_, _++_}
 use native.Mathlib.Omega.{arith}
 use Rattle.std.specs.shelf.Lists.{All}
 use Rattle.std.proofs.shelf.Tests.{cases-eq, both-ways}
-use Rattle.model.proofs.core.Lists.{update, update-same, update-other, update-both, Some, At, has, without, all-map, all-push, all-without, all-at, some-left, some-push}
+use Rattle.model.proofs.core.Lists.{update, update-same, update-other, update-both, Some, At, has, without, all-map, all-push, all-without, all-at, some-left, some-push, not-so}
 use Rattle.model.proofs.core.State.{Book, Conflict, Outcome, absent, present, Entry, Node, add-entry, Claim, prepare-to, prepares, State, voted-yes, saw-at, accept}
 use Rattle.model.proofs.core.Facts.{Closed, closed-kept, Committed, Dead, Settled, Ended, Justified, EntryRight, Extends, ended-stays, outcome-stays, all-justified-stays, verdicts-stay}
 use Rattle.model.proofs.core.Network.{prepares-without, prepares-at}
-use Rattle.model.proofs.core.Log.{same-yes, logged-here, logged-other, logged-more}
+use Rattle.model.proofs.core.Log.{same-yes, logged-here, logged-other, logged-more, logged-not}
 use Rattle.model.proofs.core.Log as log
 use Rattle.model.proofs.core.Agreement.{Durable, Agreement}
 
@@ -129,6 +129,7 @@ module _ {V : Type 0} (B : Book V) (s : State V) (v : Agreement B s) (i n q : �
   agreement = record {
     prepare-spent = spent′;
     prepare-once = λ m p. omega (arith, v .prepare-once m p, prepares-without m p i (s .network));
+    yes-once = (logged-not (s .past .log) n q (s .nodes q .memory) (not-so (voted-yes s n q) not-yet), v .yes-once);
     unopened = unopened′;
     messages = all-without (Justified B t) i (s .network) (all-justified-stays B s t extends (s .network) (v .messages));
     notes = all-justified-stays B s t extends (s .notes) (v .notes);

@@ -110,7 +110,7 @@ module _ {V : Type 0} (B : Book V) (s : State V) (v : Agreement B s) (w : Memori
 
   run-more : committed B L′ n ≡ true → serial-run B L′ ≡ n ∷ serial-run B L
   unfolding serial-run
-  run-more c = rw c refl
+  run-more c = rw (c, not-committed-before) refl
 
   run-same : committed B L′ n ≡ false → serial-run B L′ ≡ serial-run B L
   unfolding serial-run
