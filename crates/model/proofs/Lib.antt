@@ -1,1 +1,4 @@
+mod Computing
+mod Examples
+mod Marked
 pub mod core

@@ -1,0 +1,2 @@
+-- Progress
+use Prim.Native.Nat.{ℕ}
