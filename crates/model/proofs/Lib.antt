@@ -2,3 +2,4 @@ mod Computing
 mod Examples
 mod Marked
 pub mod core
+pub mod bridge

@@ -7,7 +7,8 @@ use mathlib.Core.List.{List, [], _∷_, _++_}
 use native.Mathlib.Omega.{arith}
 use Rattle.std.specs.shelf.Lists.{All}
 use Rattle.std.proofs.shelf.Tests.{both-ways}
-use Rattle.model.proofs.core.Lists.{has, every, every-has, every-map, all-map, all-some, Some}
+use Rattle.model.specs.Lists.{every}
+use Rattle.model.proofs.core.Lists.{has, every-has, every-map, all-map, all-some, Some}
 use Rattle.model.proofs.core.State.{Book, Outcome, absent, present, Entry, Node, Claim, prepare-to, vote-of, finish-as, inquiry-to, reply-of, query-to, settled-at, outcome-is, silent, prepares, Verdict, State, committed, voted-yes, saw-at}
 
 -- ## A node that can no longer vote yes

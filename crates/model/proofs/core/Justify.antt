@@ -7,7 +7,8 @@ use mathlib.Core.List.{List, [], _∷_, _++_}
 use native.Mathlib.Omega.{arith}
 use Rattle.std.specs.shelf.Lists.{All}
 use Rattle.std.proofs.shelf.Tests.{cases-eq, cases-bool, both-ways}
-use Rattle.model.proofs.core.Lists.{Some, At, has, every, without, all-at, all-some, all-two, some-map, some-all, every-has, every-from, every-fails, not-so}
+use Rattle.model.specs.Lists.{every}
+use Rattle.model.proofs.core.Lists.{Some, At, has, without, all-at, all-some, all-two, some-map, some-all, every-has, every-from, every-fails, not-so}
 use Rattle.model.proofs.core.State.{Book, Outcome, absent, present, Entry, Claim, prepare-to, vote-of, finish-as, inquiry-to, reply-of, query-to, settled-at, outcome-is, prepares, State, voted-yes, with-network, accept}
 use Rattle.model.proofs.core.Facts.{Closed, no-prepare, forced-abort, Committed, Dead, Settled, Ended, Known, Justified, OutcomeRight, EntryRight, ended-past-dead, known-committed}
 use Rattle.model.proofs.core.Network.{prepares-at}

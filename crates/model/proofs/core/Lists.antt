@@ -8,6 +8,7 @@ use native.Mathlib.Omega.{arith}
 use lib.Dec.{eqb}
 use lib.ListN.{take}
 use Rattle.std.specs.shelf.Lists.{All}
+use Rattle.model.specs.Lists.{every}
 use Rattle.std.proofs.shelf.Tests.{cases-eq, ne-eqb, eq-eqb, eqb-true, both-ways, and-parts, and-from, and-cases, or-cases, or-parts, or-left, or-right}
 
 -- ## Maps with a point update
@@ -162,10 +163,6 @@ not-so false h = refl
 unfoldable pub has : ℕ → List ℕ → Bool
 has n [] = false
 has n (x ∷ xs) = eqb n x || has n xs
-
-unfoldable pub every : (ℕ → Bool) → List ℕ → Bool
-every f [] = true
-every f (q ∷ qs) = f q && every f qs
 
 -- no number stands twice
 abbrev pub Distinct : List ℕ → Type 0

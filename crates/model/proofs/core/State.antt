@@ -6,7 +6,8 @@ use mathlib.Core.Bool.{Bool, true, false, cond, _&&_, _||_, not}
 use mathlib.Core.List.{List, [], _∷_, _++_}
 use mathlib.Core.Logic.{_⊎_}
 use lib.Dec.{eqb, ltb}
-use Rattle.model.proofs.core.Lists.{update, without, has, every, Distinct}
+use Rattle.model.specs.Lists.{every}
+use Rattle.model.proofs.core.Lists.{update, without, has, Distinct}
 
 -- ## Minitransactions
 

@@ -1,0 +1,2 @@
+-- The plain cluster seen as the core: items, nodes, messages, and each call as moves.
+pub mod Tests
