@@ -1,2 +1,4 @@
 -- The plain cluster seen as the core: items, nodes, messages, and each call as moves.
 pub mod Tests
+pub mod ItemEffects
+pub mod ItemBook
