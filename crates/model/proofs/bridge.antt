@@ -2,3 +2,4 @@
 pub mod Tests
 pub mod ItemEffects
 pub mod ItemBook
+pub mod SerialMemories

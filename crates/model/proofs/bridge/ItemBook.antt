@@ -34,7 +34,7 @@ item-book items n = record {
 
 -- ## Participants are distinct
 
-has-append : (q : ℕ) (xs ys : List ℕ) → has q (xs ++ ys) ≡ (has q xs || has q ys)
+pub has-append : (q : ℕ) (xs ys : List ℕ) → has q (xs ++ ys) ≡ (has q xs || has q ys)
 unfolding has
 has-append q [] ys = refl
 has-append q (x ∷ xs) ys = rw (has-append q xs ys) (go (eqb q x) (has q xs) (has q ys))

@@ -18,12 +18,12 @@ same-yes n q m p = go (cases-eq m n) (cases-eq p q)
     go (inl e) (inr f) = inr (λ _. f)
     go (inr e) f = inr (λ g _. e g)
 
-other-test : (n q m p : ℕ) → (m ≡ n → p ≡ q → ⊥) → (eqb m n && eqb p q) ≡ false
+other-test : (n q m p : ℕ) → (m ≡ n → p ≡ q → ⊥) → (eqb q p && eqb n m) ≡ false
 other-test n q m p h = go (cases-eq m n)
   where
-    go : ((m ≡ n) ⊎ (m ≡ n → ⊥)) → (eqb m n && eqb p q) ≡ false
-    go (inl e) = and-right (eqb m n) (eqb p q) (ne-eqb p q (h e))
-    go (inr e) = and-left (eqb m n) (eqb p q) (ne-eqb m n e)
+    go : ((m ≡ n) ⊎ (m ≡ n → ⊥)) → (eqb q p && eqb n m) ≡ false
+    go (inl e) = and-left (eqb q p) (eqb n m) (ne-eqb q p (λ z. h e (sym z)))
+    go (inr e) = and-right (eqb q p) (eqb n m) (ne-eqb n m (λ z. e (sym z)))
 
 module _ {V : Type 0} (ys : List (Yes V)) (n q : ℕ) (m : ℕ → V) where
   abbrev pub more : List (Yes V)
@@ -31,7 +31,7 @@ module _ {V : Type 0} (ys : List (Yes V)) (n q : ℕ) (m : ℕ → V) where
 
   pub logged-here : logged more n q ≡ true
   unfolding logged
-  logged-here = rw (eq-eqb n n refl, eq-eqb q q refl) refl
+  logged-here = rw (eq-eqb q q refl, eq-eqb n n refl) refl
 
   pub logged-other : (k p : ℕ) → (k ≡ n → p ≡ q → ⊥) → logged more k p ≡ logged ys k p
   unfolding logged
@@ -52,12 +52,12 @@ module _ {V : Type 0} (ys : List (Yes V)) (n q : ℕ) (m : ℕ → V) where
       go : (zs : List (Yes V)) → logged zs n q ≡ false → All (λ y. n ≡ y .tid → q ≡ y .place → ⊥) zs
       go [] h = tt
       go (y ∷ zs) h =
-          let p = or-parts (eqb n (y .tid) && eqb q (y .place)) (logged zs n q) h in
-          ((λ e f. both-ways (eqb n (y .tid) && eqb q (y .place)) (p .0) (and-from (eqb n (y .tid)) (eqb q (y .place)) (eq-eqb n (y .tid) e) (eq-eqb q (y .place) f))), go zs (p .1))
+          let p = or-parts (eqb (y .place) q && eqb (y .tid) n) (logged zs n q) h in
+          ((λ e f. both-ways (eqb (y .place) q && eqb (y .tid) n) (p .0) (and-from (eqb (y .place) q) (eqb (y .tid) n) (eq-eqb (y .place) q (sym f)) (eq-eqb (y .tid) n (sym e)))), go zs (p .1))
 
   pub seen-here : (M : ℕ → ℕ → V) → seen M more n q ≡ m
   unfolding seen
-  seen-here M = rw (eq-eqb n n refl, eq-eqb q q refl) refl
+  seen-here M = rw (eq-eqb q q refl, eq-eqb n n refl) refl
 
   pub seen-other : (M : ℕ → ℕ → V) (k p : ℕ) → (k ≡ n → p ≡ q → ⊥) → seen M more k p ≡ seen M ys k p
   unfolding seen

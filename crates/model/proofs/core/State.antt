@@ -157,7 +157,7 @@ pub record Past (V : Type 0) : Type 0 where
 
 unfoldable pub logged : {V : Type 0} → List (Yes V) → ℕ → ℕ → Bool
 logged [] n q = false
-logged (y ∷ ys) n q = (eqb n (y .tid) && eqb q (y .place)) || logged ys n q
+logged (y ∷ ys) n q = (eqb (y .place) q && eqb (y .tid) n) || logged ys n q
 
 -- each participant has, at some time, written its yes entry
 abbrev pub committed : {V : Type 0} → Book V → List (Yes V) → ℕ → Bool
@@ -166,7 +166,7 @@ committed B L n = every (logged L n) (B n .participants)
 -- what node q saw when it wrote its yes entry of n
 unfoldable pub seen : {V : Type 0} → (ℕ → ℕ → V) → List (Yes V) → ℕ → ℕ → ℕ → V
 seen M [] n q = M q
-seen M (y ∷ ys) n q = cond (eqb n (y .tid) && eqb q (y .place)) (y .saw) (seen M ys n q)
+seen M (y ∷ ys) n q = cond (eqb (y .place) q && eqb (y .tid) n) (y .saw) (seen M ys n q)
 
 -- the committed minitransactions, the latest first: the turn of each comes with the yes entry that makes it committed
 unfoldable pub serial-run : {V : Type 0} → Book V → List (Yes V) → List ℕ
