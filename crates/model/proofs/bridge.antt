@@ -3,3 +3,4 @@ pub mod Tests
 pub mod ItemEffects
 pub mod ItemBook
 pub mod SerialMemories
+pub mod SerialTurns

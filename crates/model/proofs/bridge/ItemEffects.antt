@@ -149,7 +149,7 @@ read-cells cs (compare q a bs) h = refl
 read-cells cs (read q a n) h = rw (within-fits cs a n h, part-window cs a n h) refl
 read-cells cs (write q a bs) h = refl
 
-joinedBy-alike : {X Y : Type 0} (f g : X → List Y) (xs : List X) → All (λ x. f x ≡ g x) xs → joinedBy f xs ≡ joinedBy g xs
+pub joinedBy-alike : {X Y : Type 0} (f g : X → List Y) (xs : List X) → All (λ x. f x ≡ g x) xs → joinedBy f xs ≡ joinedBy g xs
 unfolding joinedBy
 joinedBy-alike f g [] h = refl
 joinedBy-alike f g (x ∷ xs) h = ap₂ (λ a b. a ++ b) (h .0) (joinedBy-alike f g xs (h .1))
