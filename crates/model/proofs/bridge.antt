@@ -4,3 +4,5 @@ pub mod ItemEffects
 pub mod ItemBook
 pub mod SerialMemories
 pub mod SerialTurns
+pub mod Abstraction
+pub mod WritesSeen
