@@ -6,3 +6,5 @@ pub mod SerialMemories
 pub mod SerialTurns
 pub mod Abstraction
 pub mod WritesSeen
+pub mod Tables
+pub mod Sound
