@@ -15,6 +15,7 @@ use Rattle.model.specs.Cells.{Cell}
 use Rattle.model.specs.Messages.{Message}
 use Rattle.model.specs.Answers.{Answer}
 use Rattle.model.specs.Lists.{place}
+use Rattle.model.specs.Node.{Node, noNode}
 use Rattle.model.specs.Cluster.{Cluster, Coordinator, Recovery, nodeAt, withNetwork, withCoordinators, withRecoveries, sent, coordinatorTid, recoveryNumber}
 use Rattle.model.specs.Calls.{Result, answered, firstOf, withoutMessage, withoutCoordinator, withoutRecovery}
 use Rattle.model.specs.Deeds as deeds
@@ -23,13 +24,14 @@ use Rattle.model.proofs.core.Lists.{all-map, all-append, without}
 use Rattle.model.proofs.core.State as core
 use Rattle.model.proofs.core.State.{Claim, Past, State, prepares, with-network}
 use Rattle.model.proofs.core.Facts.{Justified, Extends, extends-refl}
+use Rattle.model.proofs.core.Agreement.{Agreement}
 use Rattle.model.proofs.core.Memories.{Invariant}
 use Rattle.model.proofs.core.NetworkChange.{NetworkChange, leaving, sending}
 use Rattle.model.proofs.core.Moves.{network-changed, network-extends}
 use Rattle.model.proofs.bridge.ItemBook.{item-book}
 use Rattle.model.proofs.bridge.SerialMemories.{Within, entry-of}
 use Rattle.model.proofs.bridge.Abstraction.{Touched, cluster-seen, claim-of, seen-sent, seen-removed}
-use Rattle.model.proofs.bridge.Tables.{CoordinatorFits, RecoveryFits, MessageFits, NodeFits, Tables, tables-stay}
+use Rattle.model.proofs.bridge.Tables.{CoordinatorFits, RecoveryFits, MessageFits, NodeFits, Tables, tables-stay, node-stays}
 
 -- all-without for a removal of the rules
 pub all-removed : {A : Type 0} (P : A → Type 0) (i : ℕ) (xs : List A) → All P xs → All P (removed xs i)
@@ -84,3 +86,47 @@ module _ (items : ℕ → List Item) (sizes : ℕ → ℕ) (count : ℕ) where
 
     pub step-leaves : (tid : ℕ) → Step h w c nothing (withoutCoordinator c tid)
     step-leaves tid = step-coordinators _ (all-removed _ (place coordinatorTid tid (c .coordinators)) (c .coordinators) (s .tables .coordinators))
+
+    -- ## The network changes, and no node does
+
+    module _ (c′ : Cluster) (ms : List Claim) (x : ℕ) (same-nodes : c′ .nodes ≡ c .nodes)
+        (seen : cluster-seen h w c′ ≡ with-network S ms (S .notes) x (S .past .verdicts)) (g : NetworkChange B S ms (S .notes) x (S .past .verdicts)) where
+      abbrev S′ : State Cell
+      S′ = cluster-seen h w c′
+
+      pub network-extended : Extends B S S′
+      network-extended = subst (Extends B S) (sym seen) (network-extends B S (s .invariant) ms (S .notes) x (S .past .verdicts) g)
+
+      pub network-sound : All (CoordinatorFits items S′) (c′ .coordinators) → All (RecoveryFits items S′ (c′ .lastRecovery)) (c′ .recoveries)
+          → All (MessageFits items S′ (c′ .lastRecovery) (c′ .recoveries)) (c′ .network) → Sound h w c′
+      network-sound ks rs fs = record {
+        invariant = subst (Invariant B) (sym seen) (network-changed B S (s .invariant) ms (S .notes) x (S .past .verdicts) g);
+        tables = record {
+          number = ap length same-nodes ∙ s .tables .number;
+          nodes = subst (λ (ns : List Node). (q : ℕ) → q < length ns → NodeFits items S′ sizes q (getD ns q noNode)) (sym same-nodes) (λ q l. node-stays items S S′ network-extended sizes q (nodeAt c q) (s .tables .nodes q l));
+          coordinators = ks;
+          recoveries = rs;
+          messages = fs;
+        };
+      }
+
+      pub step-network : All (CoordinatorFits items S′) (c′ .coordinators) → All (RecoveryFits items S′ (c′ .lastRecovery)) (c′ .recoveries)
+          → All (MessageFits items S′ (c′ .lastRecovery) (c′ .recoveries)) (c′ .network) → Step h w c nothing c′
+      step-network ks rs fs = record { past = h; sound = network-sound ks rs fs; extends = network-extended; log = refl; made = refl }
+
+    pub agreed : Agreement B S
+    agreed = s .invariant .agreement
+
+    lost-seen : (i : ℕ) → cluster-seen h w (withoutMessage c i) ≡ with-network S (without i (S .network)) (S .notes) (S .next) (S .past .verdicts)
+    unfolding cluster-seen
+    lost-seen i = seen-removed h w c i
+
+    -- a message leaves
+    pub step-loses : (i : ℕ) → Step h w c nothing (withoutMessage c i)
+    step-loses i =
+        let c′ = withoutMessage c i in
+        let g = leaving B S agreed i in
+        let e : cluster-seen h w c′ ≡ with-network S (without i (S .network)) (S .notes) (S .next) (S .past .verdicts) = lost-seen i in
+        let x = network-extended c′ (without i (S .network)) (S .next) refl e g in
+        let f = tables-stay items S (cluster-seen h w c′) x sizes count c claims-justified (s .tables) in
+        step-network c′ (without i (S .network)) (S .next) refl e g (f .coordinators) (f .recoveries) (all-removed _ i (c .network) (f .messages))
