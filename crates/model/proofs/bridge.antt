@@ -8,3 +8,4 @@ pub mod Abstraction
 pub mod WritesSeen
 pub mod Tables
 pub mod Sound
+pub mod Talk

@@ -60,7 +60,7 @@ module _ (items : ℕ → List Item) (sizes : ℕ → ℕ) (count : ℕ) where
     abbrev S : State Cell
     S = cluster-seen h w c
 
-    claims-justified : All (Justified B S) (map claim-of (c .network))
+    pub claims-justified : All (Justified B S) (map claim-of (c .network))
     unfolding cluster-seen
     claims-justified = s .invariant .agreement .messages
 
