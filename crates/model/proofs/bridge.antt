@@ -9,3 +9,4 @@ pub mod WritesSeen
 pub mod Tables
 pub mod Sound
 pub mod Talk
+pub mod Ask

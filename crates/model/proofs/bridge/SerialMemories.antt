@@ -113,7 +113,7 @@ or-nothing : (a : Bool) → (a || false) ≡ a
 or-nothing true = refl
 or-nothing false = refl
 
-has-members-below : (k q ps : ℕ) → q < k → has q (membersBelow k ps) ≡ includes ps q
+pub has-members-below : (k q ps : ℕ) → q < k → has q (membersBelow k ps) ≡ includes ps q
 unfolding membersBelow has
 has-members-below zero q ps l = absurd (omega arith)
 has-members-below (suc k) q ps l = go (cases-eq q k) (includes ps k) refl (has-members-below k q ps)
