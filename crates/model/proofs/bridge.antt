@@ -10,3 +10,5 @@ pub mod Tables
 pub mod Sound
 pub mod Talk
 pub mod Ask
+pub mod NodeSteps
+pub mod WriteSteps
