@@ -12,3 +12,4 @@ pub mod Talk
 pub mod Ask
 pub mod NodeSteps
 pub mod WriteSteps
+pub mod Collect

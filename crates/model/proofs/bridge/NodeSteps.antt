@@ -50,7 +50,7 @@ module _ (items : ℕ → List Item) (sizes : ℕ → ℕ) (count : ℕ) where
   step-after h w c c₁ c₂ d a b = record
       { past = b .past; sound = b .sound; extends = extends-trans B₀ _ _ _ (a .extends) (b .extends); log = b .log ∙ ap (yesAfter d) (a .log); made = b .made ∙ a .made }
 
-no-bits : (n p : ℕ) → getD (replicate n false) p false ≡ true → ⊥
+pub no-bits : (n p : ℕ) → getD (replicate n false) p false ≡ true → ⊥
 no-bits n p h = go (cases-lt p n)
   where
     go : ((p < n) ⊎ (n ≤ p)) → ⊥
@@ -131,6 +131,7 @@ module _ (items : ℕ → List Item) (sizes : ℕ → ℕ) (count : ℕ) (h : Pa
     doubts-open = λ r. absurd (down-not-up r);
     open-doubts = λ r. absurd (down-not-up r);
     unresolved = tt;
+    none-unresolved = λ r. absurd (down-not-up r);
     open-unresolved = λ r. absurd (down-not-recovering r);
     acknowledged = λ p r. absurd (no-bits mostNodes p r);
   }

@@ -62,6 +62,7 @@ module _ (items : ℕ → List Item) where
     pub doubts-open : n .volatile .condition ≡ Up → (tid : ℕ) → Some (λ (d : Doubt). d .tid ≡ tid) (n .volatile .inDoubt) → Open tid (journalOf n .entries)
     pub open-doubts : n .volatile .condition ≡ Up → (tid : ℕ) → Open tid (journalOf n .entries) → Some (λ (d : Doubt). d .tid ≡ tid) (n .volatile .inDoubt)
     pub unresolved : All (UnresolvedFits s (journalOf n)) (n .volatile .unresolved)
+    pub none-unresolved : n .volatile .condition ≡ Up → n .volatile .unresolved ≡ []
     -- while it recovers, what is past the pointer without an outcome is in the table
     pub open-unresolved : n .volatile .condition ≡ Recovering → All (λ (e : Entry). isOpen (journalOf n) e ≡ true → Some (λ (u : Unresolved). u .tid ≡ e .tid) (n .volatile .unresolved)) (journalOf n .entries)
     pub acknowledged : (p : ℕ) → getD (n .volatile .acknowledged) p false ≡ true → (isEmpty (journalOf n) ≡ false) × Justified B s (settled-at (oldest (journalOf n) .tid) p)
@@ -138,6 +139,7 @@ module _ (items : ℕ → List Item) where
       doubts-open = f .doubts-open;
       open-doubts = f .open-doubts;
       unresolved = all-map (UnresolvedFits s (journalOf n)) (UnresolvedFits t (journalOf n)) (unresolved-stays (journalOf n)) (n .volatile .unresolved) (f .unresolved);
+      none-unresolved = f .none-unresolved;
       open-unresolved = f .open-unresolved;
       acknowledged = λ p h. (f .acknowledged p h .0, justified-stays B s t x (settled-at (oldest (journalOf n) .tid) p) (f .acknowledged p h .1));
     }
