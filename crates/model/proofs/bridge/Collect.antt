@@ -41,7 +41,7 @@ use Rattle.model.proofs.bridge.SerialMemories.{entry-of}
 use Rattle.model.proofs.bridge.Abstraction.{Touched, cluster-seen, node-seen, stores-seen, entry-seen, entries-seen, outcome-seen, condition-seen}
 use Rattle.model.proofs.bridge.Tables.{EntryCopies, Open, NodeFits, Tables}
 use Rattle.model.proofs.bridge.Sound.{Sound, Step, agreed}
-use Rattle.model.proofs.bridge.NodeSteps.{step-node, step-cuts, no-bits, powerless-fits, wrote-others, wrote-here}
+use Rattle.model.proofs.bridge.NodeSteps.{step-node, step-node-down, step-writes-none, no-bits, powerless-fits, wrote-others, wrote-here}
 
 -- ## Write budgets
 
@@ -162,3 +162,19 @@ module _ (items : ℕ → List Item) (sizes : ℕ → ℕ) (count : ℕ) (h : Pa
     pub step-collected : Step items sizes count h w c (wrote q (dropOldest ∷ [])) (withNode c q (done-node (collecting (nodeAt c q))))
     step-collected = step-node items sizes count h w c s q l (done-node (collecting (nodeAt c q))) (wrote q (dropOldest ∷ [])) k (wrote-others items sizes count h w c s q (dropOldest ∷ [])) no-more-yes drop-seen
         (dropped B S (s .invariant) q (entry-seen e) (entries-seen es) seen-oldest (why .0)) (dropped-extends B S (s .invariant) q (entry-seen e) (entries-seen es) seen-oldest (why .0)) (drop-fits (with-node S q k))
+
+    -- and then power goes
+    one-dropped : Step items sizes count h w c (wrote q (dropOldest ∷ [])) (withNode c q (powerless (done-node (collecting (nodeAt c q)) .stores)))
+    one-dropped = step-node-down items sizes count h w c s q l (done-node (collecting (nodeAt c q))) (wrote q (dropOldest ∷ [])) k (wrote-others items sizes count h w c s q (dropOldest ∷ [])) no-more-yes drop-seen
+        (dropped B S (s .invariant) q (entry-seen e) (entries-seen es) seen-oldest (why .0)) (dropped-extends B S (s .invariant) q (entry-seen e) (entries-seen es) seen-oldest (why .0))
+        (drop-fits S .size) (drop-fits S .entries)
+
+    collected-torn : (budget : ℕ) → Step items sizes count h w c (wrote q (take budget (dropOldest ∷ []))) (withNode c q (powerless (appliedAll (take budget (dropOldest ∷ [])) st)))
+    unfolding appliedAll
+    collected-torn zero = step-writes-none items sizes count h w c s q l
+    collected-torn (suc zero) = one-dropped
+    collected-torn (suc (suc f)) = one-dropped
+
+    pub step-collects : (budget : ℕ) (a : Answer) → Step items sizes count h w c (wroteBy q budget (collecting (nodeAt c q))) (carried c q budget (collecting (nodeAt c q)) a .1)
+    step-collects budget a = step-carried budget (collecting (nodeAt c q)) a (collected-torn budget)
+        (subst (Step items sizes count h w c (wrote q (dropOldest ∷ []))) (sym (sent-nothing (withNode c q (done-node (collecting (nodeAt c q)))))) step-collected)

@@ -26,6 +26,7 @@ use Rattle.model.proofs.core.State.{Past, State, with-node, in-condition, up, 
 use Rattle.model.proofs.core.Facts.{Extends, extends-trans}
 use Rattle.model.proofs.core.Memories.{Invariant}
 use Rattle.model.proofs.core.Restart as restart
+use Rattle.model.proofs.core.Again.{then-powerless, then-powerless-extends}
 use Rattle.model.proofs.bridge.ItemBook.{item-book}
 use Rattle.model.proofs.bridge.SerialMemories.{entry-of}
 use Rattle.model.proofs.bridge.Abstraction.{Touched, cluster-seen, node-seen, stores-seen, entries-seen, seen-with-node}
@@ -154,3 +155,29 @@ module _ (items : ℕ → List Item) (sizes : ℕ → ℕ) (count : ℕ) (h : Pa
 
   pub wrote-here : (q : ℕ) (ws : List Write) → _≡_ {A = ℕ → Bool} (λ b. touched (wrote q ws) q b (w q b)) (λ b. touchedByAll ws b (w q b))
   wrote-here q ws = rw (eq-eqb q q refl) refl
+
+  -- the same change of node q, and then power goes
+  pub step-node-down : (q : ℕ) → q < length (c .nodes) → (n : Node) (d : Deed) (k : core.Node Cell)
+      → ((p : ℕ) → (p ≡ q → ⊥) → (λ b. touched d p b (w p b)) ≡ w p)
+      → yesAfter d (map entry-of (h .log)) ≡ map entry-of (h .log)
+      → node-seen (λ b. touched d q b (w q b)) n ≡ k
+      → Invariant B (with-node S q k) → Extends B S (with-node S q k) → length (cellsOf n) ≡ sizes q → All (EntryCopies items q) (journalOf n .entries)
+      → Step items sizes count h w c d (withNode c q (powerless (n .stores)))
+  step-node-down q l n d k others log seen i x z e =
+      step-node q l (powerless (n .stores)) d (in-condition down k) others log (ap (λ (m : core.Node Cell). in-condition down m) seen)
+      (then-powerless B S q k i) (then-powerless-extends B S q k i x) (powerless-fits (with-node S q (in-condition down k)) q (n .stores) z e)
+
+  -- no write was allowed
+  cut-seen-none : (q : ℕ) → node-seen (λ b. touched (wrote q []) q b (w q b)) (powerless (nodeAt c q .stores)) ≡ in-condition down (S .nodes q)
+  unfolding cluster-seen touchedByAll
+  cut-seen-none q = ap (λ (u : ℕ → Bool). node-seen u (powerless (nodeAt c q .stores))) (wrote-here q [])
+
+  no-yes-none : (q : ℕ) → yesAfter (wrote q []) (map entry-of (h .log)) ≡ map entry-of (h .log)
+  unfolding yesByAll
+  no-yes-none q = refl
+
+  pub step-writes-none : (q : ℕ) → q < length (c .nodes) → Step items sizes count h w c (wrote q []) (withNode c q (powerless (nodeAt c q .stores)))
+  step-writes-none q l =
+      step-node q l (powerless (nodeAt c q .stores)) (wrote q []) (in-condition down (S .nodes q)) (wrote-others q []) (no-yes-none q) (cut-seen-none q)
+      (restart.powerless B S (s .invariant) q) (restart.powerless-extends B S (s .invariant) q)
+      (powerless-fits (with-node S q (in-condition down (S .nodes q))) q (nodeAt c q .stores) (s .tables .nodes q l .size) (s .tables .nodes q l .entries))
