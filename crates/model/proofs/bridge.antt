@@ -13,3 +13,4 @@ pub mod Ask
 pub mod NodeSteps
 pub mod WriteSteps
 pub mod Collect
+pub mod Settle

@@ -57,7 +57,7 @@ durable-seen : (o : Option Outcome) → outcome-seen (mapped (λ (o : Outcome). 
 durable-seen None = refl
 durable-seen (SomeOf o) = refl
 
-flushed-entries : (es : List Entry) → entries-seen (map madeDurable es) ≡ outcomes (λ e. core.made-durable (e .outcome)) (entries-seen es)
+pub flushed-entries : (es : List Entry) → entries-seen (map madeDurable es) ≡ outcomes (λ e. core.made-durable (e .outcome)) (entries-seen es)
 unfolding outcomes
 flushed-entries [] = refl
 flushed-entries (e ∷ es) = ap₂ (λ (o : core.Outcome) (fs : List core.Entry). record { number = e .running; tid = e .tid; outcome = o } ∷ fs) (durable-seen (e .outcome)) (flushed-entries es)
