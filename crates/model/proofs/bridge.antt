@@ -14,3 +14,4 @@ pub mod NodeSteps
 pub mod WriteSteps
 pub mod Collect
 pub mod Settle
+pub mod Resume
