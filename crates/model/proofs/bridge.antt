@@ -15,3 +15,4 @@ pub mod WriteSteps
 pub mod Collect
 pub mod Settle
 pub mod Resume
+pub mod Wake
