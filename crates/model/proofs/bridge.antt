@@ -16,3 +16,4 @@ pub mod Collect
 pub mod Settle
 pub mod Resume
 pub mod Wake
+pub mod Quiet
