@@ -17,3 +17,4 @@ pub mod Settle
 pub mod Resume
 pub mod Wake
 pub mod Quiet
+pub mod Answering

@@ -83,7 +83,7 @@ module _ (items : ℕ → List Item) (sizes : ℕ → ℕ) (count : ℕ) (within
   more-fits last tid new e (voted v bs) n from to a = a
   more-fits last tid new e (finish b) n from to a = a
   more-fits last tid new e inquiry n from to a = more-about last tid new e n from a
-  more-fits last tid new e (reply b) n from to a = more-about last tid new e n to a
+  more-fits last tid new e (reply b) n from to a = (more-about last tid new e n to (a .0), a .1)
   more-fits last tid new e query n from to a = a
   more-fits last tid new e settled n from to a = a
 

@@ -88,6 +88,11 @@ module _ (items : ℕ → List Item) where
   AboutRecovery last rs tid CoordinatorParty = Unit {0}
   AboutRecovery last rs tid (RecoveryParty r) = (r ≤ last) × All (λ (k : Recovery). k .number ≡ r → k .tid ≡ tid) rs
 
+  abbrev pub FromNode : Party → Type 0
+  FromNode (NodeParty q) = Unit {0}
+  FromNode CoordinatorParty = ⊥
+  FromNode (RecoveryParty r) = ⊥
+
   abbrev pub PrepareCopies : ℕ → ℕ → List Item → Party → Type 0
   PrepareCopies tid ps is (NodeParty q) = (ps ≡ participantsOf (items tid)) × (is ≡ itemsAt q (items tid))
   PrepareCopies tid ps is CoordinatorParty = Unit {0}
@@ -103,7 +108,7 @@ module _ (items : ℕ → List Item) where
   BodyFits s last rs (voted v bs) tid from to = VoteReads s tid v bs from
   BodyFits s last rs (finish b) tid from to = Unit {0}
   BodyFits s last rs inquiry tid from to = AboutRecovery last rs tid from
-  BodyFits s last rs (reply b) tid from to = AboutRecovery last rs tid to
+  BodyFits s last rs (reply b) tid from to = AboutRecovery last rs tid to × FromNode from
   BodyFits s last rs query tid from to = Unit {0}
   BodyFits s last rs settled tid from to = Unit {0}
 

@@ -206,7 +206,7 @@ module _ (items : ℕ → List Item) (sizes : ℕ → ℕ) (count : ℕ) (h : Pa
   body-fewer rs rs′ f last (voted v bs) tid from to a = a
   body-fewer rs rs′ f last (finish b) tid from to a = a
   body-fewer rs rs′ f last inquiry tid from to a = about-fewer rs rs′ f last tid from a
-  body-fewer rs rs′ f last (reply b) tid from to a = about-fewer rs rs′ f last tid to a
+  body-fewer rs rs′ f last (reply b) tid from to a = (about-fewer rs rs′ f last tid to (a .0), a .1)
   body-fewer rs rs′ f last query tid from to a = a
   body-fewer rs rs′ f last settled tid from to a = a
 

@@ -53,7 +53,7 @@ seen-no-yes m q (force tid ∷ xs) h L = absurd (h .0)
 seen-no-yes m q (point n ∷ xs) h L = absurd (h .0)
 seen-no-yes m q (dropOldest ∷ xs) h L = absurd (h .0)
 
-all-set : {A : Type 0} (P : A → Type 0) (xs : List A) (i : ℕ) (y : A) → All P xs → (P (getD xs i y) → P y) → All P (set xs i y)
+pub all-set : {A : Type 0} (P : A → Type 0) (xs : List A) (i : ℕ) (y : A) → All P xs → (P (getD xs i y) → P y) → All P (set xs i y)
 all-set P [] i y h f = tt
 all-set P (x ∷ xs) zero y h f = (f (h .0), h .1)
 all-set P (x ∷ xs) (suc i) y h f = (h .0, all-set P xs i y (h .1) f)
