@@ -11,8 +11,8 @@ use Rattle.std.specs.shelf.Lists.{All}
 use Rattle.std.specs.Options.{isSome}
 use Rattle.std.specs.declared.option.Option.{Option}
 use Rattle.std.specs.declared.option.Option.the-variants.{Some as SomeOf, None}
-use Rattle.std.proofs.shelf.Tests.{cases-eq, cases-bool, both-ways, and-parts, or-cases, or-parts, or-left, or-right, not-true, not-false, eqb-true, eq-eqb, ne-eqb, cond-both}
-use Rattle.std.proofs.shelf.Lists.{getD-set-other}
+use Rattle.std.proofs.shelf.Tests.{cases-eq, cases-bool, both-ways, and-parts, or-cases, or-parts, or-from, or-left, or-right, not-true, not-false, eqb-true, eq-eqb, ne-eqb, cond-both}
+use Rattle.std.proofs.shelf.Lists.{getD-set-same, getD-set-other}
 use Rattle.model.specs.declared.condition.Condition.{Condition}
 use Rattle.model.specs.declared.condition.Condition.the-variants.{Up, Down, Recovering}
 use Rattle.model.specs.declared.party.Party.{Party}
@@ -25,7 +25,7 @@ use Rattle.model.specs.Messages.{Body, Message, inquiry, reply}
 use Rattle.model.specs.Answers.{Answer, delivered}
 use Rattle.model.specs.Journal.{Entry, Journal, tidOf, hasEntry, isForced, mayVoteYes, isForcedFull, forcedIn}
 use Rattle.model.specs.Writes.{Stores, Write, force, applied, appliedAll}
-use Rattle.model.specs.Node.{Node, Unresolved, Volatile, journalOf, cellsOf, isUnresolved, unresolvedOf, unresolvedTid, noUnresolved, powerless}
+use Rattle.model.specs.Node.{Node, noNode, Unresolved, Volatile, journalOf, cellsOf, isUnresolved, unresolvedOf, unresolvedTid, noUnresolved, powerless}
 use Rattle.model.specs.Cluster.{Cluster, nodeAt, withNode, sent}
 use Rattle.model.specs.Handling.{Effect, Reaction, lost, taken, withoutEffect, sending, from, replied, heard, agreedBy, resolvedAs, withUnresolved, inquired}
 use Rattle.model.specs.Calls.{carried, reacted}
@@ -46,10 +46,20 @@ use Rattle.model.proofs.bridge.Abstraction.{Touched, cluster-seen, node-seen, 
 use Rattle.model.proofs.bridge.Tables.{EntryCopies, AboutRecovery, NodeFits, UnresolvedFits, MessageFits, node-stays, messages-stay}
 use Rattle.model.proofs.bridge.Sound.{Sound, Step, agreed, step-nothing}
 use Rattle.model.proofs.bridge.NodeSteps.{step-node, step-node-down, step-then, step-writes-none, wrote-others, wrote-here}
-use Rattle.model.proofs.bridge.WriteSteps.{all-set}
+use Rattle.model.proofs.bridge.WriteSteps.{all-set, step-torn}
 use Rattle.model.proofs.bridge.Talk.{step-sends}
 use Rattle.model.proofs.bridge.Collect.{step-carried, done-node}
 use Rattle.model.proofs.bridge.Quiet.{step-quiet, step-without-effect}
+
+unseen : (tid : ℕ) (es : List Entry) → Some (λ (e : core.Entry). e .tid ≡ tid) (entries-seen es) → Some (λ (e : Entry). e .tid ≡ tid) es
+unseen tid [] x = x
+unseen tid (e ∷ es) (inl x) = inl x
+unseen tid (e ∷ es) (inr x) = inr (unseen tid es x)
+
+seen-too : (tid : ℕ) (es : List Entry) → Some (λ (e : Entry). e .tid ≡ tid) es → Some (λ (e : core.Entry). e .tid ≡ tid) (entries-seen es)
+seen-too tid [] x = x
+seen-too tid (e ∷ es) (inl x) = inl x
+seen-too tid (e ∷ es) (inr x) = inr (seen-too tid es x)
 
 bool-iff : (a b : Bool) → (a ≡ true → b ≡ true) → (b ≡ true → a ≡ true) → a ≡ b
 bool-iff true b f g = sym (f refl)
@@ -175,3 +185,134 @@ module _ (items : ℕ → List Item) (sizes : ℕ → ℕ) (count : ℕ) (h : Pa
           (carried c q budget (record { writes = []; volatile = withUnresolved (n .volatile) tid (heard q (NodeParty p) b (unresolvedOf (n .volatile) tid)); sent = [] }) a .1)
       go true j z = step-quiet items sizes count h w c s q l budget a (withUnresolved (n .volatile) tid (agreedBy q p (unresolvedOf (n .volatile) tid))) [] refl (resolved-node-fits tid z _ (yes-fits tid z p j) (u-tid tid z) not-up) (λ _ _. refl) tt tt
       go false j z = step-quiet items sizes count h w c s q l budget a (withUnresolved (n .volatile) tid (resolvedAs (unresolvedOf (n .volatile) tid) false)) [] refl (resolved-node-fits tid z _ (no-fits tid z p j) (u-tid tid z) not-up) (λ _ _. refl) tt tt
+
+  -- ## An inquiry
+
+  module _ (tid : ℕ) (room : (isForced (journalOf n) tid || isForcedFull (journalOf n)) ≡ false) where
+    abbrev j′ : Journal
+    j′ = record { entries = journalOf n .entries; forced = journalOf n .forced ++ tid ∷ []; pointer = journalOf n .pointer; highest = journalOf n .highest; capacity = journalOf n .capacity }
+
+    abbrev forced-node : Node
+    forced-node = record { stores = record { cells = cellsOf n; journal = j′ }; volatile = n .volatile }
+
+    forced-stores : appliedAll (force tid ∷ []) (n .stores) ≡ forced-node .stores
+    unfolding appliedAll
+    forced-stores = rw room refl
+
+    abbrev k : core.Node Cell
+    k = core.write (S .nodes q) (core.force tid)
+
+    force-kept : KeptEntries B S q k
+    force-kept = write-kept B S (s .invariant) q (S .nodes q) (core.force tid) tt (nothing-written B S (s .invariant) q)
+
+    force-serves : k .condition ≡ core.up → Serving B S q k
+    unfolding core.write
+    force-serves u = record { shows = s .invariant .memories .serving q u .shows; locks = s .invariant .memories .serving q u .locks }
+
+    force-invariant : Invariant B (with-node S q k)
+    force-invariant = kept B S (s .invariant) q k force-kept force-serves
+
+    force-extends : Extends B S (with-node S q k)
+    force-extends = kept-extends B S (s .invariant) q k force-kept
+
+    force-seen : node-seen (λ b. touched (wrote q (force tid ∷ [])) q b (w q b)) forced-node ≡ k
+    unfolding cluster-seen touchedByAll core.write
+    force-seen = ap (λ (u : ℕ → Bool). node-seen u forced-node) (wrote-here items sizes count h w c s q (force tid ∷ []))
+        ∙ ap (λ (f : ℕ → Bool). core.node (condition-seen (n .volatile .condition)) (cell-at (cellsOf n)) (w q) (entries-seen (journalOf n .entries)) (journalOf n .pointer) (journalOf n .highest) f) (fun-ext (λ t. among-push t tid (journalOf n .forced)))
+
+    force-no-yes : yesAfter (wrote q (force tid ∷ [])) (map entry-of (h .log)) ≡ map entry-of (h .log)
+    unfolding yesByAll
+    force-no-yes = refl
+
+    force-fits : NodeFits items (with-node S q k) sizes q forced-node
+    force-fits =
+        let f = node-stays items S (with-node S q k) force-extends sizes q n fits in
+        record {
+          size = f .size;
+          entries = f .entries;
+          doubts = f .doubts;
+          doubts-distinct = f .doubts-distinct;
+          doubts-open = f .doubts-open;
+          open-doubts = f .open-doubts;
+          unresolved = all-map _ _ (λ u g. record { participants = g .participants; stands = g .stands; agreed = g .agreed; resolved = g .resolved }) (n .volatile .unresolved) (f .unresolved);
+          none-unresolved = f .none-unresolved;
+          open-unresolved = f .open-unresolved;
+          acknowledged = f .acknowledged;
+        }
+
+    step-forces : Step items sizes count h w c (wrote q (force tid ∷ [])) (withNode c q forced-node)
+    step-forces = step-node items sizes count h w c s q l forced-node (wrote q (force tid ∷ [])) k (wrote-others items sizes count h w c s q (force tid ∷ [])) force-no-yes force-seen force-invariant force-extends force-fits
+
+    step-forces-down : Step items sizes count h w c (wrote q (force tid ∷ [])) (withNode c q (powerless (forced-node .stores)))
+    step-forces-down = step-node-down items sizes count h w c s q l forced-node (wrote q (force tid ∷ [])) k (wrote-others items sizes count h w c s q (force tid ∷ [])) force-no-yes force-seen force-invariant force-extends (force-fits .size) (force-fits .entries)
+
+    force-torn : (budget : ℕ) → Step items sizes count h w c (wrote q (take budget (force tid ∷ []))) (withNode c q (powerless (appliedAll (take budget (force tid ∷ [])) (n .stores))))
+    force-torn zero = step-torn items sizes count h w c s q l [] tt tt
+    force-torn (suc zero) = subst (λ (st : Stores). Step items sizes count h w c (wrote q (force tid ∷ [])) (withNode c q (powerless st))) (sym forced-stores) step-forces-down
+    force-torn (suc (suc f)) = subst (λ (st : Stores). Step items sizes count h w c (wrote q (force tid ∷ [])) (withNode c q (powerless st))) (sym forced-stores) step-forces-down
+
+    abbrev c′ : Cluster
+    c′ = withNode c q forced-node
+
+    node-there : nodeAt c′ q ≡ forced-node
+    node-there = getD-set-same (c .nodes) q forced-node noNode l
+
+    forced-now : (h′ : Past Cell) (w′ : Touched) → cluster-seen h′ w′ c′ .nodes q .forced tid ≡ true
+    unfolding cluster-seen
+    forced-now h′ w′ = subst (λ (m : Node). isForced (journalOf m) tid ≡ true) (sym node-there) (among-push tid tid (journalOf n .forced) ∙ or-left (eqb tid tid) (among tid (journalOf n .forced)) (eq-eqb tid tid refl))
+
+    none-stands : (h′ : Past Cell) (w′ : Touched) → hasEntry (journalOf n) tid ≡ false → Some (λ (e : core.Entry). e .tid ≡ tid) (cluster-seen h′ w′ c′ .nodes q .entries) → ⊥
+    unfolding cluster-seen
+    none-stands h′ w′ z x = both-ways (hasEntry (journalOf n) tid) z (some-stands tidOf tid (journalOf n .entries) (unseen tid (journalOf n .entries) (subst (λ (m : Node). Some (λ (e : core.Entry). e .tid ≡ tid) (entries-seen (journalOf m .entries))) node-there x)))
+
+    abbrev effect : Party → Effect
+    effect who = record { writes = force tid ∷ []; volatile = n .volatile; sent = from q tid who (reply false) ∷ [] }
+
+    step-forced : (budget : ℕ) (a : Answer) (who : Party) → hasEntry (journalOf n) tid ≡ false → Justified B S (inquiry-to tid q) → AboutRecovery items (c .lastRecovery) (c .recoveries) tid who
+        → Step items sizes count h w c (wroteBy q budget (effect who)) (carried c q budget (effect who) a .1)
+    unfolding prepares prepares-in
+    step-forced budget a who none i about = step-carried items sizes count h w c s q budget (effect who) a (force-torn budget)
+        (subst (λ (st : Stores). Step items sizes count h w c (wrote q (force tid ∷ [])) (sent (withNode c q (record { stores = st; volatile = n .volatile })) (from q tid who (reply false) ∷ []))) (sym forced-stores)
+        (step-then items sizes count h w c (withNode c q forced-node) _ (wrote q (force tid ∷ [])) first
+        (step-sends items sizes count (first .past) _ (withNode c q forced-node) (first .sound) (from q tid who (reply false) ∷ []) (c .coordinators) (c .recoveries) (c .lastRecovery) (λ _ _. omega arith)
+        (forced-reply B _ (first .sound .invariant .agreement) tid q (justified-stays B S _ (first .extends) (inquiry-to tid q) i) (none-stands (first .past) _ none) (forced-now (first .past) _), tt)
+        (first .sound .tables .coordinators) (first .sound .tables .recoveries)
+        (all-append _ (c .network) _ (first .sound .tables .messages) ((about, tt), tt)))))
+      where
+        first : Step items sizes count h w c (wrote q (force tid ∷ [])) (withNode c q forced-node)
+        first = step-forces
+
+  -- an entry of the rules that stands, as the core sees it
+  entry-stands : (tid : ℕ) → hasEntry (journalOf n) tid ≡ true → Some (λ (e : core.Entry). e .tid ≡ tid) (S .nodes q .entries)
+  unfolding cluster-seen
+  entry-stands tid z = seen-too tid (journalOf n .entries) (stands-some tidOf tid (journalOf n .entries) z)
+
+  no-entry-stands : (tid : ℕ) → hasEntry (journalOf n) tid ≡ false → Some (λ (e : core.Entry). e .tid ≡ tid) (S .nodes q .entries) → ⊥
+  unfolding cluster-seen
+  no-entry-stands tid z x = both-ways (hasEntry (journalOf n) tid) z (some-stands tidOf tid (journalOf n .entries) (unseen tid (journalOf n .entries) x))
+
+  forced-seen : (tid : ℕ) → isForced (journalOf n) tid ≡ true → S .nodes q .forced tid ≡ true
+  unfolding cluster-seen
+  forced-seen tid z = z
+
+  pub step-inquired : (budget tid : ℕ) (who : Party) → Justified B S (inquiry-to tid q) → AboutRecovery items (c .lastRecovery) (c .recoveries) tid who
+      → Step items sizes count h w c (reactedWith q budget (inquired q n tid who)) (reacted c q budget (inquired q n tid who) .1)
+  unfolding prepares prepares-in
+  step-inquired budget tid who i about =
+      cond-both (hasEntry (journalOf n) tid) _ _ P
+      (λ z. step-quiet items sizes count h w c s q l budget (delivered true) (n .volatile) (from q tid who (reply true) ∷ []) refl fits (λ _ _. omega arith) (standing-reply B S (agreed items sizes count h w c s) tid q (entry-stands tid z), tt) ((about, tt), tt))
+      (λ z. cond-both (not (mayVoteYes (journalOf n) tid)) _ _ P
+      (λ f. step-quiet items sizes count h w c s q l budget (delivered true) (n .volatile) (from q tid who (reply false) ∷ []) refl fits (λ _ _. omega arith)
+      (forced-reply B S (agreed items sizes count h w c s) tid q i (no-entry-stands tid z) (forced-seen tid (twice f)), tt) ((about, tt), tt))
+      (λ f. cond-both (isForcedFull (journalOf n)) _ _ P
+      (λ _. step-nothing items sizes count h w c s)
+      (λ r. step-forced tid (or-from (isForced (journalOf n) tid) (isForcedFull (journalOf n)) (twice-not f) r) budget (delivered true) who z i about)))
+    where
+      P : Reaction → Type 0
+      P r = Step items sizes count h w c (reactedWith q budget r) (reacted c q budget r .1)
+
+      twice : not (not (isForced (journalOf n) tid)) ≡ true → isForced (journalOf n) tid ≡ true
+      twice z = not-false (isForced (journalOf n) tid) (not-true (not (isForced (journalOf n) tid)) z)
+
+      twice-not : not (not (isForced (journalOf n) tid)) ≡ false → isForced (journalOf n) tid ≡ false
+      twice-not z = not-true (isForced (journalOf n) tid) (not-false (not (isForced (journalOf n) tid)) z)
