@@ -18,3 +18,4 @@ pub mod Resume
 pub mod Wake
 pub mod Quiet
 pub mod Answering
+pub mod Finishing

@@ -87,7 +87,7 @@ module _ (P : Entry → Type 0) (kept : (e : Entry) (o : Option Outcome) → P e
   writes-copies m s (dropOldest ∷ xs) h a = absurd (h .0)
 
 -- writes do not look at the condition
-condition-writes : (d : core.Condition) (k : core.Node Cell) (xs : List (core.Write Cell)) → in-condition d (write-all k xs) ≡ write-all (in-condition d k) xs
+pub condition-writes : (d : core.Condition) (k : core.Node Cell) (xs : List (core.Write Cell)) → in-condition d (write-all k xs) ≡ write-all (in-condition d k) xs
 unfolding write-all core.write
 condition-writes d k [] = refl
 condition-writes d k (core.note t v ∷ xs) = condition-writes d (core.write k (core.note t v)) xs
