@@ -19,3 +19,4 @@ pub mod Wake
 pub mod Quiet
 pub mod Answering
 pub mod Finishing
+pub mod Preparing

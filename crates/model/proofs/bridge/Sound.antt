@@ -23,7 +23,7 @@ use Rattle.model.specs.Deeds.{Deed, nothing, touched, yesAfter, unless}
 use Rattle.model.proofs.core.Lists.{all-map, all-append, without}
 use Rattle.model.proofs.core.State as core
 use Rattle.model.proofs.core.State.{Claim, Past, State, prepares, with-network}
-use Rattle.model.proofs.core.Facts.{Justified, Extends, extends-refl}
+use Rattle.model.proofs.core.Facts.{Justified, Extends, extends-refl, extends-trans}
 use Rattle.model.proofs.core.Agreement.{Agreement}
 use Rattle.model.proofs.core.Memories.{Invariant}
 use Rattle.model.proofs.core.NetworkChange.{NetworkChange, leaving, sending}
@@ -117,7 +117,7 @@ module _ (items : ℕ → List Item) (sizes : ℕ → ℕ) (count : ℕ) where
     pub agreed : Agreement B S
     agreed = s .invariant .agreement
 
-    lost-seen : (i : ℕ) → cluster-seen h w (withoutMessage c i) ≡ with-network S (without i (S .network)) (S .notes) (S .next) (S .past .verdicts)
+    pub lost-seen : (i : ℕ) → cluster-seen h w (withoutMessage c i) ≡ with-network S (without i (S .network)) (S .notes) (S .next) (S .past .verdicts)
     unfolding cluster-seen
     lost-seen i = seen-removed h w c i
 
@@ -130,3 +130,18 @@ module _ (items : ℕ → List Item) (sizes : ℕ → ℕ) (count : ℕ) where
         let x = network-extended c′ (without i (S .network)) (S .next) refl e g in
         let f = tables-stay items S (cluster-seen h w c′) x sizes count c claims-justified (s .tables) in
         step-network c′ (without i (S .network)) (S .next) refl e g (f .coordinators) (f .recoveries) (all-removed _ i (c .network) (f .messages))
+
+    lost-change : (i : ℕ) → NetworkChange B S (without i (S .network)) (S .notes) (S .next) (S .past .verdicts)
+    lost-change i = leaving B S agreed i
+
+    pub lost-extends : (i : ℕ) → Extends B S (cluster-seen h w (withoutMessage c i))
+    lost-extends i = network-extended (withoutMessage c i) (without i (S .network)) (S .next) refl (lost-seen i) (lost-change i)
+
+    pub lost-sound : (i : ℕ) → Sound h w (withoutMessage c i)
+    lost-sound i =
+        let f = tables-stay items S (cluster-seen h w (withoutMessage c i)) (lost-extends i) sizes count c claims-justified (s .tables) in
+        network-sound (withoutMessage c i) (without i (S .network)) (S .next) refl (lost-seen i) (lost-change i) (f .coordinators) (f .recoveries) (all-removed _ i (c .network) (f .messages))
+
+    -- a message has left, and then this step
+    pub after-loss : (i : ℕ) (d : Deed) (c′ : Cluster) → Step h w (withoutMessage c i) d c′ → Step h w c d c′
+    after-loss i d c′ b = record { past = b .past; sound = b .sound; extends = extends-trans B S _ _ (lost-extends i) (b .extends); log = b .log; made = b .made }
