@@ -20,3 +20,4 @@ pub mod Quiet
 pub mod Answering
 pub mod Finishing
 pub mod Preparing
+pub mod Hearing

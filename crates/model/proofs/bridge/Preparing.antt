@@ -11,7 +11,7 @@ use lib.ListN.{length, getD, set, take}
 use Rattle.std.specs.shelf.Lists.{All, removed}
 use Rattle.std.specs.declared.option.Option.{Option}
 use Rattle.std.specs.declared.option.Option.the-variants.{Some as SomeOf, None}
-use Rattle.std.proofs.shelf.Tests.{cases-eq, cases-bool, both-ways, or-parts, not-true, not-false, eq-eqb, ne-eqb}
+use Rattle.std.proofs.shelf.Tests.{cases-eq, cases-bool, both-ways, or-parts, not-true, not-false, eq-eqb, ne-eqb, cond-both}
 use Rattle.std.proofs.shelf.Lists.{map-append, getD-set-same, getD-set-other, length-set, set-set}
 use Rattle.model.specs.declared.condition.Condition.{Condition}
 use Rattle.model.specs.declared.condition.Condition.the-variants.{Up, Down, Recovering}
@@ -307,3 +307,17 @@ module _ (items : ℕ → List Item) (sizes : ℕ → ℕ) (count : ℕ) (within
             (a, sent (withNode (withoutMessage c i) q (record { stores = appliedAll (cond b (take budget xs) xs) (n .stores); volatile = u })) (ballot ∷ [])) .1)
         go true = yes-torn budget
         go false = subst (λ (st : Stores). Step items sizes count h w c (wrote q xs) (sent (withNode (withoutMessage c i) q (record { stores = st; volatile = u })) (ballot ∷ []))) (sym added-stores) whole-yes
+
+  pub step-prepared : (budget : ℕ) (a : Answer) → Step items sizes count h w c (wroteBy q budget (prepared q n tid ps is)) (carried (withoutMessage c i) q budget (prepared q n tid ps is) a .1)
+  step-prepared budget a =
+      cond-both (isLocked v is) _ _ P (λ _. no-vote Busy refl)
+      (λ k. cond-both (not (mayVoteYes (journalOf n) tid)) _ _ P (λ _. no-vote Forced refl)
+      (λ f. cond-both (not (allHold (cellsOf n) is)) _ _ P (λ _. no-vote Mismatch refl)
+      (λ m. cond-both (isCrowded n) _ _ P (λ _. no-vote Full refl)
+      (λ r. step-accepted k (not-true (isForced (journalOf n) tid) (not-false (not (isForced (journalOf n) tid)) f)) (not-false (allHold (cellsOf n) is) m) (or-parts (isFull (journalOf n)) _ r .0) budget a))))
+    where
+      P : Vote → Type 0
+      P x = Step items sizes count h w c (wroteBy q budget (preparedAs x q n tid ps is)) (carried (withoutMessage c i) q budget (preparedAs x q n tid ps is) a .1)
+
+      no-vote : (x : Vote) → isYes x ≡ false → Step items sizes count h w c (wroteBy q budget (sending n (from q tid CoordinatorParty (voted x [])))) (carried (withoutMessage c i) q budget (sending n (from q tid CoordinatorParty (voted x []))) a .1)
+      no-vote x e = after-loss items sizes count h w c s i _ _ (step-refused items sizes count h w c s i tid q there budget a x e l)
