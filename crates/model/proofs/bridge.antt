@@ -21,3 +21,4 @@ pub mod Answering
 pub mod Finishing
 pub mod Preparing
 pub mod Hearing
+pub mod Deliver

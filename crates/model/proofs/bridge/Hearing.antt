@@ -98,3 +98,100 @@ module _ (items : ℕ → List Item) (sizes : ℕ → ℕ) (count : ℕ) (h : Pa
       step-coordinators items sizes count h w c s _ (all-set (CoordinatorFits items S) (c .coordinators) (place coordinatorTid (m .tid) (c .coordinators)) _ (s .tables .coordinators)
       (λ _. hears-fits (coordinatorOf c (m .tid)) k (c .lastRecovery) (c .recoveries) (m .sender) (m .receiver) (m .body)
       (subst (λ t. Justified B S (claimed (m .body) t (m .sender) (m .receiver))) (sym e) j) (subst (λ t. BodyFits items S (c .lastRecovery) (c .recoveries) (m .body) t (m .sender) (m .receiver)) (sym e) f)))
+
+  -- ## Recoveries
+
+  reply-fits : (last : ℕ) (k : Recovery) → RecoveryFits items S last k → (q : ℕ) (b : Bool) → Justified B S (reply-of (k .tid) q b) → RecoveryFits items S last (withReply k q b)
+  reply-fits last k f q b j = cond-both (hasReplied k q) _ _ (RecoveryFits items S last) (λ _. f) (λ _. record {
+    given = f .given;
+    participants = f .participants;
+    replies = λ p x z. ⊎-elim (λ y. subst (λ a. Justified B S (reply-of (k .tid) p a)) (y .2) (subst (λ m. Justified B S (reply-of (k .tid) m b)) (sym (y .0)) j)) (λ y. f .replies p x y) (slot (k .replies) q p b x z);
+  })
+
+  recovery-hears-fits : (last : ℕ) (k : Recovery) → RecoveryFits items S last k → (who to : Party) (b : Body) → Justified B S (claimed b (k .tid) who to) → RecoveryFits items S last (recoveryHears k who b)
+  recovery-hears-fits last k f (NodeParty q) to (prepare ps is) j = f
+  recovery-hears-fits last k f (NodeParty q) to (voted v bs) j = f
+  recovery-hears-fits last k f (NodeParty q) to (finish b) j = f
+  recovery-hears-fits last k f (NodeParty q) to inquiry j = f
+  recovery-hears-fits last k f (NodeParty q) to (reply b) j = reply-fits last k f q b j
+  recovery-hears-fits last k f (NodeParty q) to query j = f
+  recovery-hears-fits last k f (NodeParty q) to settled j = f
+  recovery-hears-fits last k f CoordinatorParty to b j = f
+  recovery-hears-fits last k f (RecoveryParty r) to b j = f
+
+  -- what it hears changes neither its number nor its tid
+  abbrev SameRecovery : Recovery → Recovery → Type 0
+  SameRecovery k m = (m .number ≡ k .number) × (m .tid ≡ k .tid)
+
+  reply-same : (k : Recovery) (q : ℕ) (b : Bool) → SameRecovery k (withReply k q b)
+  reply-same k q b = cond-both (hasReplied k q) _ _ (SameRecovery k) (λ _. (refl, refl)) (λ _. (refl, refl))
+
+  hears-same : (k : Recovery) (who : Party) (b : Body) → SameRecovery k (recoveryHears k who b)
+  hears-same k (NodeParty q) (prepare ps is) = (refl, refl)
+  hears-same k (NodeParty q) (voted v bs) = (refl, refl)
+  hears-same k (NodeParty q) (finish b) = (refl, refl)
+  hears-same k (NodeParty q) inquiry = (refl, refl)
+  hears-same k (NodeParty q) (reply b) = reply-same k q b
+  hears-same k (NodeParty q) query = (refl, refl)
+  hears-same k (NodeParty q) settled = (refl, refl)
+  hears-same k CoordinatorParty b = (refl, refl)
+  hears-same k (RecoveryParty r) b = (refl, refl)
+
+  about-same : (rs rs′ : List Recovery) → ((r tid : ℕ) → All (λ (k : Recovery). k .number ≡ r → k .tid ≡ tid) rs → All (λ (k : Recovery). k .number ≡ r → k .tid ≡ tid) rs′) → (last tid : ℕ) (who : Party) → AboutRecovery items last rs tid who → AboutRecovery items last rs′ tid who
+  about-same rs rs′ f last tid (NodeParty q) a = tt
+  about-same rs rs′ f last tid CoordinatorParty a = tt
+  about-same rs rs′ f last tid (RecoveryParty r) a = (a .0, f r tid (a .1))
+
+  body-same : (rs rs′ : List Recovery) → ((r tid : ℕ) → All (λ (k : Recovery). k .number ≡ r → k .tid ≡ tid) rs → All (λ (k : Recovery). k .number ≡ r → k .tid ≡ tid) rs′) → (last : ℕ) (b : Body) (tid : ℕ) (who to : Party) → BodyFits items S last rs b tid who to → BodyFits items S last rs′ b tid who to
+  body-same rs rs′ f last (prepare ps is) tid who to a = a
+  body-same rs rs′ f last (voted v bs) tid who to a = a
+  body-same rs rs′ f last (finish b) tid who to a = a
+  body-same rs rs′ f last inquiry tid who to a = about-same rs rs′ f last tid who a
+  body-same rs rs′ f last (reply b) tid who to a = (about-same rs rs′ f last tid to (a .0), a .1)
+  body-same rs rs′ f last query tid who to a = a
+  body-same rs rs′ f last settled tid who to a = a
+
+  -- the tid of a recovery, told by a message that is from or to it
+  pub step-recovery-hears : (r : ℕ) (m : Message) → hasRecovery c r ≡ true → Justified B S (claimed (m .body) (m .tid) (m .sender) (m .receiver)) → (recoveryOf c r .tid ≡ m .tid) ⊎ (recoveryHears (recoveryOf c r) (m .sender) (m .body) ≡ recoveryOf c r)
+      → Step items sizes count h w c nothing (withRecoveries c (set (c .recoveries) (place recoveryNumber r (c .recoveries)) (recoveryHears (recoveryOf c r) (m .sender) (m .body))))
+  unfolding cluster-seen
+  step-recovery-hears r m z j e = record {
+    past = h;
+    extends = extends-refl B S;
+    log = refl;
+    made = refl;
+    sound = record {
+      invariant = s .invariant;
+      tables = record {
+        number = s .tables .number;
+        nodes = s .tables .nodes;
+        coordinators = s .tables .coordinators;
+        recoveries = all-set (RecoveryFits items S (c .lastRecovery)) (c .recoveries) at k′ (s .tables .recoveries) (λ _. fits);
+        messages = all-map _ _ (λ x a. body-same (c .recoveries) rs′ kept (c .lastRecovery) (x .body) (x .tid) (x .sender) (x .receiver) a) (c .network) (s .tables .messages);
+      };
+    };
+  }
+    where
+      at : ℕ
+      at = place recoveryNumber r (c .recoveries)
+
+      k : Recovery
+      k = recoveryOf c r
+
+      k′ : Recovery
+      k′ = recoveryHears k (m .sender) (m .body)
+
+      rs′ : List Recovery
+      rs′ = set (c .recoveries) at k′
+
+      there : Some (λ (x : Recovery). x .number ≡ r) (c .recoveries)
+      there = stands-some recoveryNumber r (c .recoveries) z
+
+      old : RecoveryFits items S (c .lastRecovery) k
+      old = found-all recoveryNumber r (RecoveryFits items S (c .lastRecovery)) (c .recoveries) noRecovery there (s .tables .recoveries)
+
+      fits : RecoveryFits items S (c .lastRecovery) k′
+      fits = ⊎-elim (λ y. recovery-hears-fits (c .lastRecovery) k old (m .sender) (m .receiver) (m .body) (subst (λ t. Justified B S (claimed (m .body) t (m .sender) (m .receiver))) (sym y) j)) (λ y. subst (RecoveryFits items S (c .lastRecovery)) (sym y) old) e
+
+      kept : (n tid : ℕ) → All (λ (x : Recovery). x .number ≡ n → x .tid ≡ tid) (c .recoveries) → All (λ (x : Recovery). x .number ≡ n → x .tid ≡ tid) rs′
+      kept n tid a = all-set _ (c .recoveries) at k′ a (λ _ y. hears-same k (m .sender) (m .body) .1 ∙ found-all recoveryNumber r (λ (x : Recovery). x .number ≡ n → x .tid ≡ tid) (c .recoveries) noRecovery there a (sym (hears-same k (m .sender) (m .body) .0) ∙ y))

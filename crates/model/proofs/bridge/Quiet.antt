@@ -171,3 +171,7 @@ module _ (items : ℕ → List Item) (sizes : ℕ → ℕ) (count : ℕ) (h : Pa
             acknowledged = λ r y. ⊎-elim (λ e. (not-true (isEmpty (journalOf n)) (u .0), subst (λ m. Justified B S (settled-at m r)) (sym (eqb-true (oldest (journalOf n) .tid) tid (u .1))) (subst (λ m. Justified B S (settled-at tid m)) (sym e) j)))
                 (λ y′. fits .acknowledged r y′) (set-true (n .volatile .acknowledged) p r y);
           }
+
+  -- from no node: nothing is noted
+  pub step-settled-by-none : (budget : ℕ) (a : Answer) (tid : ℕ) → Step items sizes count h w c (wroteBy q budget (cond (isOldest (journalOf n) tid) (record { writes = []; volatile = n .volatile; sent = [] }) (withoutEffect n))) (carried c q budget (cond (isOldest (journalOf n) tid) (record { writes = []; volatile = n .volatile; sent = [] }) (withoutEffect n)) a .1)
+  step-settled-by-none budget a tid = cond-both (isOldest (journalOf n) tid) _ _ (λ (e : Effect). Step items sizes count h w c (wroteBy q budget e) (carried c q budget e a .1)) (λ _. step-without-effect budget a) (λ _. step-without-effect budget a)
