@@ -22,3 +22,4 @@ pub mod Finishing
 pub mod Preparing
 pub mod Hearing
 pub mod Deliver
+pub mod Performs
