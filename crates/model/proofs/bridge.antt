@@ -23,3 +23,4 @@ pub mod Preparing
 pub mod Hearing
 pub mod Deliver
 pub mod Performs
+pub mod Histories
