@@ -9,8 +9,11 @@ use Rattle.model.specs.Writes.{appliedAll}
 use Rattle.model.specs.Handling.{reaction, checkpointOf}
 use Rattle.model.specs.Making.{making}
 use Rattle.model.specs.Calls.{carried, openItems, performed, step}
-use Rattle.model.specs.Samples.{after, answers}
+use Rattle.model.specs.Deeds.{deed, touchedByAll, yesByAll}
+use Rattle.model.specs.History.{following, writtenSince, yesLog, requests}
+use Rattle.model.specs.SerialRun.{writesAll, turns, memoriesAfter, turnOf}
+use Rattle.model.specs.Samples.{after, answers, eventsOf}
 
 unfoldable pub every-rule : Unit {0}
-unfolding encodeItems areItems decodeItems encodeRequest decodeRequest some every only joinedBy place putItems membersBelow namedBelow outcomesLeft appliedAll reaction checkpointOf making carried openItems performed step after answers
+unfolding encodeItems areItems decodeItems encodeRequest decodeRequest some every only joinedBy place putItems membersBelow namedBelow outcomesLeft appliedAll reaction checkpointOf making carried openItems performed step after answers eventsOf deed touchedByAll yesByAll following writtenSince yesLog requests writesAll turns memoriesAfter turnOf
 every-rule = tt

@@ -24,9 +24,9 @@ use Rattle.model.specs.Cells.{within, readAt}
 use Rattle.model.specs.Ranges.{nodeOf, addressOf, itemsAt}
 use Rattle.model.specs.Participants.{includes, members, everyMember, participantsOf}
 use Rattle.model.specs.Journal.{Journal, isEmpty, oldest, past, says}
-use Rattle.model.specs.Writes.{Write, fails, budgeted, appliedAll}
-use Rattle.model.specs.Node.{Node, Left, cellsOf, journalOf, isUp, isDown, isRecovering, powerless, isInDoubt, doubtOf, isUnresolved, unresolvedOf, someUnresolved, recovering as restarting}
-use Rattle.model.specs.Handling.{Effect, Reaction, lost, taken, reaction, resuming, settling, collecting}
+use Rattle.model.specs.Writes.{fails}
+use Rattle.model.specs.Node.{Node, Left, noneLeft, cellsOf, journalOf, isUp, isDown, isRecovering, powerless, isInDoubt, doubtOf, isUnresolved, unresolvedOf, someUnresolved, recovering as restarting}
+use Rattle.model.specs.Handling.{Effect, Reaction, lost, taken, carriedOut, reaction, resuming, settling, collecting}
 use Rattle.model.specs.Cluster.{Cluster, Coordinator, Recovery, hasNode, nodeAt, withNode, withNetwork, sent, hasRoom, noMessage, toEach, withCoordinators, coordinatorTid, newCoordinator, hasCoordinator, coordinatorOf, withVote, allVoted, decision, votesOf, readsOf, withRecoveries, recoveryNumber, newRecovery, hasRecovery, recoveryOf, withReply, allReplied, ruling}
 
 -- each call with its arguments
@@ -48,6 +48,25 @@ pub data Call : Type 0 where
   collects : ℕ → ℕ → Call  -- a node, a write budget
   shows : ℕ → ℕ → ℕ → Call  -- a node, an address, a length
 
+-- what a call may be given of a loss of power: that of its node at a wake, nothing elsewhere
+abbrev pub leftAt : (ℕ → Left) → Call → Left
+leftAt f (opens bs) = noneLeft
+leftAt f (delivers i budget) = noneLeft
+leftAt f (loses i) = noneLeft
+leftAt f (decides tid buffer) = noneLeft
+leftAt f (leaves tid) = noneLeft
+leftAt f (recovers q tid) = noneLeft
+leftAt f (rules r) = noneLeft
+leftAt f (stops r) = noneLeft
+leftAt f (cuts q) = noneLeft
+leftAt f (wakes q) = f q
+leftAt f (inquires q tid other) = noneLeft
+leftAt f (resumes q budget) = noneLeft
+leftAt f (settles q budget) = noneLeft
+leftAt f (queries q other) = noneLeft
+leftAt f (collects q budget) = noneLeft
+leftAt f (shows q a n) = noneLeft
+
 -- ## Refusals
 
 -- the first refusal whose condition holds
@@ -65,14 +84,11 @@ answered (Some r) c accepted = (refused r, c)
 
 -- ## Write budgets
 
--- What a node does with a write budget. With one below 255 the first writes stand, as many as it allows, then the node
--- is down, nothing is sent and the answer is 8: also where every write was made.
+-- A node carries an effect out. When power fails on the way nothing is sent and the answer is 8 alone.
 unfoldable pub carried : Cluster → ℕ → ℕ → Effect → Answer → Result
 carried c q budget e a =
-    let s = appliedAll (budgeted budget (e .writes)) (nodeAt c q .stores) in
-    cond (fails budget)
-    (powerFailed, withNode c q (powerless s))
-    (a, sent (withNode c q (record { stores = s; volatile = e .volatile })) (e .sent))
+    let d = withNode c q (carriedOut budget e (nodeAt c q)) in
+    cond (fails budget) (powerFailed, d) (a, sent d (e .sent))
 
 -- ## Tests on the nodes that a call names
 

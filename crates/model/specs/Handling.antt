@@ -23,8 +23,8 @@ use Rattle.model.specs.Lists.{place, joinedBy}
 use Rattle.model.specs.Ranges.{writesIn, allHold, readItems}
 use Rattle.model.specs.Participants.{everyMember}
 use Rattle.model.specs.Journal.{Entry, Journal, hasEntry, entryOf, isEmpty, oldest, past, isFull, mayVoteYes, isForcedFull}
-use Rattle.model.specs.Writes.{Write, addEntry, force, note, put, flushMemory, flushJournal, point, dropOldest}
-use Rattle.model.specs.Node.{Node, Doubt, Unresolved, Volatile, cellsOf, journalOf, isInDoubt, doubtOf, doubtTid, isLocked, isUnresolved, unresolvedOf, unresolvedTid, nothingBut, ofNone}
+use Rattle.model.specs.Writes.{Write, addEntry, force, note, put, flushMemory, flushJournal, point, dropOldest, fails, budgeted, appliedAll}
+use Rattle.model.specs.Node.{Node, powerless, Doubt, Unresolved, Volatile, cellsOf, journalOf, isInDoubt, doubtOf, doubtTid, isLocked, isUnresolved, unresolvedOf, unresolvedTid, nothingBut, ofNone}
 
 -- what a node does: nothing of it is sent or kept beyond the writes when power fails on the way
 pub record Effect : Type 0 where
@@ -35,6 +35,13 @@ pub record Effect : Type 0 where
 pub data Reaction : Type 0 where
   lost : Reaction
   taken : Effect → Reaction
+
+-- The node after an effect, with a write budget. With one below 255 the first writes stand, as many as it allows, and
+-- then the node is down: also where every write was made.
+abbrev pub carriedOut : ℕ → Effect → Node → Node
+carriedOut budget e n =
+    let s = appliedAll (budgeted budget (e .writes)) (n .stores) in
+    cond (fails budget) (powerless s) (record { stores = s; volatile = e .volatile })
 
 -- ## Effects
 

@@ -23,5 +23,8 @@ pub mod History
 pub mod SerialRun
 pub mod Laws
 pub mod Samples
-pub mod MarkedCases
+pub mod EdgeCases
 pub mod Progress
+pub mod Bookkeeping
+pub mod Theorem
+pub mod Bounds

@@ -35,6 +35,6 @@ namedBelow (suc q) is = namedBelow q is + cond (isNamed q is) (2 ^ q) 0
 abbrev pub participantsOf : List Item → ℕ
 participantsOf is = namedBelow mostNodes is
 
--- what is known of each node: a list with a place for each
+-- whether a test holds of every participant
 abbrev pub everyMember : (ℕ → Bool) → ℕ → Bool
 everyMember test ps = every test (members ps)

@@ -11,11 +11,11 @@ use Rattle.model.specs.Requests.{encodeRequest}
 use Rattle.model.specs.Answers.{Answer}
 use Rattle.model.specs.Journal.{Entry, emptyJournal}
 use Rattle.model.specs.Writes.{Stores}
-use Rattle.model.specs.Node.{Node, Left, noneLeft, cellsOf, journalOf}
+use Rattle.model.specs.Node.{Node, Left, cellsOf, journalOf}
 use Rattle.model.specs.Cluster.{Cluster, nodeAt}
 use Rattle.model.specs.Making.{making}
 use Rattle.model.specs.History.{Event, History}
-use Rattle.model.specs.Calls.{Call, opens, delivers, loses, decides, leaves, recovers, rules, stops, cuts, wakes, inquires, resumes, settles, queries, collects, shows, step}
+use Rattle.model.specs.Calls.{Call, opens, leftAt, step}
 
 abbrev pub sampleStores : Stores
 sampleStores = record { cells = replicate 64 0; journal = emptyJournal 4 }
@@ -39,22 +39,7 @@ abbrev pub leftOf : Node → Left
 leftOf n = record { cells = cellsOf n; outcomes = map (λ (e : Entry). durableOutcome (e .outcome)) (journalOf n .entries) }
 
 abbrev pub leftBy : Cluster → Call → Left
-leftBy c (opens bs) = noneLeft
-leftBy c (delivers i f) = noneLeft
-leftBy c (loses i) = noneLeft
-leftBy c (decides n b) = noneLeft
-leftBy c (leaves n) = noneLeft
-leftBy c (recovers q n) = noneLeft
-leftBy c (rules r) = noneLeft
-leftBy c (stops r) = noneLeft
-leftBy c (cuts q) = noneLeft
-leftBy c (wakes q) = leftOf (nodeAt c q)
-leftBy c (inquires q n o) = noneLeft
-leftBy c (resumes q f) = noneLeft
-leftBy c (settles q f) = noneLeft
-leftBy c (queries q o) = noneLeft
-leftBy c (collects q f) = noneLeft
-leftBy c (shows q a n) = noneLeft
+leftBy c call = leftAt (λ q. leftOf (nodeAt c q)) call
 
 -- the cluster after calls, and their answers, in order
 unfoldable pub after : Cluster → List Call → Cluster

@@ -69,9 +69,12 @@ module _ (items : ℕ → List Item) (sizes : ℕ → ℕ) (count : ℕ) (h : Pa
   unfolding carried
   step-carried budget e a torn whole = go (fails budget)
     where
+      -- the node, whether or not power fails
+      after : Bool → Node
+      after b = cond b (powerless (appliedAll (cond b (take budget (e .writes)) (e .writes)) st)) (record { stores = appliedAll (cond b (take budget (e .writes)) (e .writes)) st; volatile = e .volatile })
+
       go : (b : Bool) → Step items sizes count h w c (wrote q (cond b (take budget (e .writes)) (e .writes)))
-          (cond {A = Answer × Cluster} b (powerFailed, withNode c q (powerless (appliedAll (cond b (take budget (e .writes)) (e .writes)) st)))
-          (a, sent (withNode c q (record { stores = appliedAll (cond b (take budget (e .writes)) (e .writes)) st; volatile = e .volatile })) (e .sent)) .1)
+          (cond {A = Answer × Cluster} b (powerFailed, withNode c q (after b)) (a, sent (withNode c q (after b)) (e .sent)) .1)
       go true = torn
       go false = whole
 

@@ -302,9 +302,11 @@ module _ (items : ℕ → List Item) (sizes : ℕ → ℕ) (count : ℕ) (within
     unfolding carried
     step-accepted budget a = go (fails budget)
       where
+        after : Bool → Node
+        after b = cond b (powerless (appliedAll (cond b (take budget xs) xs) (n .stores))) (record { stores = appliedAll (cond b (take budget xs) xs) (n .stores); volatile = u })
+
         go : (b : Bool) → Step items sizes count h w c (wrote q (cond b (take budget xs) xs))
-            (cond {A = Answer × Cluster} b (powerFailed, withNode (withoutMessage c i) q (powerless (appliedAll (cond b (take budget xs) xs) (n .stores))))
-            (a, sent (withNode (withoutMessage c i) q (record { stores = appliedAll (cond b (take budget xs) xs) (n .stores); volatile = u })) (ballot ∷ [])) .1)
+            (cond {A = Answer × Cluster} b (powerFailed, withNode (withoutMessage c i) q (after b)) (a, sent (withNode (withoutMessage c i) q (after b)) (ballot ∷ [])) .1)
         go true = yes-torn budget
         go false = subst (λ (st : Stores). Step items sizes count h w c (wrote q xs) (sent (withNode (withoutMessage c i) q (record { stores = st; volatile = u })) (ballot ∷ []))) (sym added-stores) whole-yes
 

@@ -1,11 +1,11 @@
--- The eight marked cases, by computing.
+-- The eight edge cases, by computing.
 use mathlib.Core.Path.{refl}
-use Rattle.model.specs.MarkedCases.{MarkedCases, rounds}
+use Rattle.model.specs.EdgeCases.{EdgeCases, rounds}
 use Rattle.model.proofs.Computing.{every-rule}
 
-pub marked-cases : MarkedCases
+pub edge-cases : EdgeCases
 unfolding every-rule rounds
-marked-cases =
+edge-cases =
     record {
       wrongLength = refl;
       longItem = refl;

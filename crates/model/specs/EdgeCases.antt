@@ -57,7 +57,7 @@ fillingJournal =
 abbrev pub oneMore : ℕ → Item → List Call
 oneMore n i = asks (i ∷ []) ∷ delivers 0 255 ∷ delivers 0 255 ∷ decides n 128 ∷ loses 0 ∷ []
 
-pub record MarkedCases : Type 0 where
+pub record EdgeCases : Type 0 where
   -- a request whose length field says 7 in place of 8 is malformed
   pub wrongLength : answers twoNodes (opens (sampleRequest 7) ∷ opens (sampleRequest 8) ∷ []) ≡ (refused Malformed ∷ opened 1 ∷ [])
   -- an item of 16 bytes stands, one of 17 is malformed
