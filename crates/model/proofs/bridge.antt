@@ -24,3 +24,4 @@ pub mod Hearing
 pub mod Deliver
 pub mod Performs
 pub mod Histories
+pub mod Reached
