@@ -25,3 +25,4 @@ pub mod Deliver
 pub mod Performs
 pub mod Histories
 pub mod Reached
+pub mod Beginning
