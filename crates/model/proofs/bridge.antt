@@ -26,3 +26,4 @@ pub mod Performs
 pub mod Histories
 pub mod Reached
 pub mod Beginning
+pub mod Agreed
