@@ -27,3 +27,4 @@ pub mod Histories
 pub mod Reached
 pub mod Beginning
 pub mod Agreed
+pub mod Booked
