@@ -28,3 +28,4 @@ pub mod Reached
 pub mod Beginning
 pub mod Agreed
 pub mod Booked
+pub mod Withins
