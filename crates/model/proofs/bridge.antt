@@ -29,3 +29,4 @@ pub mod Beginning
 pub mod Agreed
 pub mod Booked
 pub mod Withins
+pub mod Whole

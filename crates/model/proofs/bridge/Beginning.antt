@@ -138,3 +138,6 @@ module _ (items : ℕ → List Item) (ss : List Stores) (good : isWellMade ss �
       messages = tt;
     };
   }
+
+  pub making-size : (q : ℕ) → length (nodeAt (making ss) q .stores .cells) ≡ sizes-of ss q
+  making-size q = ap (λ (ns : List Node). length (getD ns q noNode .stores .cells)) made-nodes ∙ same-size ss q
