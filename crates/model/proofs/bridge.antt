@@ -30,3 +30,4 @@ pub mod Agreed
 pub mod Booked
 pub mod Withins
 pub mod Whole
+pub mod LawsRead

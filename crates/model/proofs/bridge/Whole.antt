@@ -24,7 +24,7 @@ use Rattle.model.proofs.bridge.SerialMemories.{Within}
 use Rattle.model.proofs.bridge.Beginning.{sizes-of, past-of, begin-sound, making-size}
 use Rattle.model.proofs.bridge.Booked.{book-of, booked-whole}
 use Rattle.model.proofs.bridge.Withins.{Fit, deed-fit}
-use Rattle.model.proofs.bridge.Reached.{Reached, Booked, reach}
+use Rattle.model.proofs.bridge.Reached.{Reached, Booked, reach, reach-made}
 
 nothing-within : (made : List Stores) → length made ≤ mostNodes → Within (sizes-of made) (length made) []
 nothing-within made few = record { few = few; nodes = tt; ranges = tt }
@@ -73,3 +73,8 @@ module _ (made : List Stores) (good : isWellMade made ≡ true) where
     -- every history of a cluster made well ends in a sound cluster
     pub reached : Reached items-of (sizes-of made) (length made) within-of made es
     reached = reach items-of (sizes-of made) (length made) within-of made beginning es fed booked-all
+
+    -- the run starts from the memories as made
+    pub reached-made : reached .past .made ≡ past-of made .made
+    unfolding reached beginning
+    reached-made = reach-made items-of (sizes-of made) (length made) within-of made beginning es fed booked-all
