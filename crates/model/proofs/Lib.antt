@@ -18,3 +18,5 @@ mod Refusing
 pub mod Searching
 pub mod Keeping
 pub mod Counting
+pub mod core
+pub mod bridge
