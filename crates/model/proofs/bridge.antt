@@ -32,3 +32,4 @@ pub mod Withins
 pub mod Whole
 pub mod LawsRead
 pub mod LawsShown
+pub mod LawsUnmade
