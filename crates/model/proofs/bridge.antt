@@ -31,3 +31,5 @@ pub mod Booked
 pub mod Withins
 pub mod Whole
 pub mod LawsRead
+pub mod LawsShown
+pub mod LawsUnmade

@@ -44,7 +44,7 @@ first-none : (t : Bool) (r : Refusal) (o : Option Refusal) → cond t (SomeOf r)
 first-none true r o h = absurd (let z : _≡_ {A = ℕ} 0 1 = cc in omega arith)
 first-none false r o h = (refl, h)
 
-up-is : (d : Condition) → isUp d ≡ true → d ≡ Up
+pub up-is : (d : Condition) → isUp d ≡ true → d ≡ Up
 up-is Up h = refl
 up-is Down h = cc
 up-is Recovering h = cc
