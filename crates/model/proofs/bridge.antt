@@ -33,3 +33,4 @@ pub mod Whole
 pub mod LawsRead
 pub mod LawsShown
 pub mod LawsUnmade
+pub mod EveryLaw

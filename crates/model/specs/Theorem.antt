@@ -59,3 +59,7 @@ pub record HoldsOf (h : History) (t : Shown) : Type 0 where
 -- of each history that leads here
 abbrev pub Lawful : Shown → Type 0
 Lawful t = (h : History) → LeadsHere h t → HoldsOf h t
+
+-- whatever a running cluster shows
+abbrev pub EveryClusterIsLawful : Type 0
+EveryClusterIsLawful = (t : Shown) → Lawful t
