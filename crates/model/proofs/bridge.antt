@@ -31,3 +31,4 @@ pub mod Booked
 pub mod Withins
 pub mod Whole
 pub mod LawsRead
+pub mod LawsDecided
