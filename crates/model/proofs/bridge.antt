@@ -31,4 +31,5 @@ pub mod Booked
 pub mod Withins
 pub mod Whole
 pub mod LawsRead
+pub mod Participating
 pub mod LawsDecided

@@ -1,8 +1,8 @@
--- Laws of what a decide gave, of a history of a cluster that was made well: its decision is that of every outcome and of every other decide.
-use Prim.Native.Nat.{ℕ, zero, suc, _+_, _≤_, _<_}
+-- Laws of what decides gave, in a history of a cluster that was made well: decisions agree with all outcomes, bytes with the serial run.
+use Prim.Native.Nat.{ℕ, zero, suc}
 use mathlib.Core.Path.{_≡_, refl, subst, sym, _∙_, ap}
-use mathlib.Core.Bool.{Bool, true, false, cond, not}
-use mathlib.Core.List.{List, [], _∷_, _++_, map}
+use mathlib.Core.Bool.{Bool, true, false, cond}
+use mathlib.Core.List.{List, [], _∷_}
 use native.Mathlib.Omega.{arith}
 use lib.ListN.{length, drop}
 use Rattle.std.specs.shelf.Maps.{nth}
@@ -14,26 +14,34 @@ use Rattle.model.specs.declared.refusal.Refusal.the-variants.{WrongCondition}
 use Rattle.model.specs.declared.vote.Vote.{Vote}
 use Rattle.model.specs.Items.{Item}
 use Rattle.model.specs.Cells.{Cell}
-use Rattle.model.specs.Answers.{Answer, decided, refused}
+use Rattle.model.specs.Answers.{decided, refused}
 use Rattle.model.specs.Writes.{Stores}
 use Rattle.model.specs.Node.{Left}
 use Rattle.model.specs.Cluster.{Cluster, hasCoordinator, coordinatorOf, allVoted, decision, readsOf}
 use Rattle.model.specs.Calls.{decides, Result, firstOf, answered, decideRefusals, deciding, performed, step}
 use Rattle.model.specs.Making.{isWellMade}
 use Rattle.model.specs.History.{Event, History, Faithful, Answered, DecidedIn, following, ago}
-use Rattle.model.specs.SerialRun.{itemsOf}
+use Rattle.model.specs.Ranges.{itemsAt}
+use Rattle.model.specs.Participants.{members, participantsOf}
+use Rattle.model.specs.SerialRun.{turnOf, serialTurn, memoriesMade, itemsOf}
 use Rattle.model.specs.Laws.{FinishedAt}
-use Rattle.model.proofs.core.State.{State}
-use Rattle.model.proofs.core.Facts.{Known}
-use Rattle.model.proofs.core.Laws.{known-alike}
-use Rattle.model.proofs.bridge.ItemBook.{item-book}
+use Rattle.model.proofs.core.Lists.{Some, all-each, every-has}
+use Rattle.model.proofs.core.State.{State, serial-run, voted-yes, saw-at}
+use Rattle.model.proofs.core.Facts.{Known, Extends}
+use Rattle.model.proofs.core.Laws.{known-alike, serial-fits, committed-has-turn}
+use Rattle.model.proofs.bridge.ItemEffects.{reads-of, joinedBy-alike}
+use Rattle.model.proofs.bridge.ItemBook.{item-book, item-book-lawful}
 use Rattle.model.proofs.bridge.SerialMemories.{Within}
+use Rattle.model.proofs.bridge.SerialTurns.{found-as, reads-by-node, turn-found}
+use Rattle.model.proofs.bridge.Abstraction.{cluster-seen}
 use Rattle.model.proofs.bridge.Beginning.{sizes-of}
-use Rattle.model.proofs.bridge.Talk.{decision-known}
+use Rattle.model.proofs.bridge.Talk.{all-each-has, found-coordinator, decision-known, reads-given}
 use Rattle.model.proofs.bridge.Performs.{first-none}
-use Rattle.model.proofs.bridge.Reached.{Reached, moment, Booked, reach, fed-drop, booked-drop}
+use Rattle.model.proofs.bridge.Reached.{Reached, moment, Booked, reach, fed-drop, booked-drop, knows-more}
 use Rattle.model.proofs.bridge.Agreed.{finished-known, known-now}
 use Rattle.model.proofs.bridge.Whole.{within-of, beginning, booked-all, reached}
+use Rattle.model.proofs.bridge.Participating.{SomeMember, coordinator-participates}
+use Rattle.model.proofs.bridge.LawsRead.{sized, order-same, made-same}
 
 -- ## A decide that was accepted
 
@@ -125,3 +133,53 @@ module _ (h : History) (good : isWellMade (h .beginning) ≡ true) (faithful : F
 
   pub decidedAlike : (tid : ℕ) (a b : Bool) (bytes more : List ℕ) → DecidedIn h tid a bytes → DecidedIn h tid b more → a ≡ b
   decidedAlike tid a b bytes more d e = known-alike (item-book items) S (r .sound .invariant) tid a b (decided-known tid a bytes d) (decided-known tid b more e)
+
+  -- ## Reads
+
+  -- what its coordinator was given is what its nodes saw
+  given-seen : (tid : ℕ) (bytes : List ℕ) → DecidedIn h tid true bytes → bytes ≡ reads-by-node (saw-at S tid) (items tid)
+  given-seen tid bytes d =
+      x .gave ∙ ap (λ b. cond b (readsOf (coordinatorOf c tid)) []) (x .so)
+      ∙ reads-given items (sizes-of made) (length made) _ _ c (before .sound) tid (x .there) (x .all) (x .so)
+      ∙ joinedBy-alike (λ q. reads-of (saw-at S₀ tid q) (itemsAt q (items tid))) (λ q. reads-of (saw-at S tid q) (itemsAt q (items tid))) (members (participantsOf (items tid)))
+      (all-each-has _ (members (participantsOf (items tid))) (λ q m. ap (λ (f : ℕ → Cell). reads-of f (itemsAt q (items tid))) (sym (later .saw tid q (every-has (voted-yes S₀ tid) (members (participantsOf (items tid))) q known m)))))
+    where
+      x : Accepted (following made (drop (suc (d .when)) es)) tid true bytes
+      x = accepted tid true bytes d
+
+      c : Cluster
+      c = following made (drop (suc (d .when)) es)
+
+      before : Reached items (sizes-of made) (length made) within made (drop (suc (d .when)) es)
+      before = reached-ago (suc (d .when))
+
+      S₀ : State Cell
+      S₀ = moment items (sizes-of made) (length made) within made (drop (suc (d .when)) es) (reached-ago (suc (d .when)))
+
+      later : Extends (item-book items) S₀ S
+      later = knows-more items (sizes-of made) (length made) within made start (suc (d .when)) es (faithful .fed) booked
+
+      known : Known (item-book items) S₀ tid true
+      known = subst (Known (item-book items) S₀ tid) (x .so) (decision-known items (sizes-of made) (length made) _ _ c (before .sound) tid (x .there) (x .all))
+
+  -- a minitransaction that was decided has a participant
+  decided-participates : (tid : ℕ) (a : Bool) (bytes : List ℕ) → DecidedIn h tid a bytes → SomeMember (participantsOf (items tid))
+  decided-participates tid a bytes d =
+      let x = accepted tid a bytes d in
+      let k = found-coordinator items (sizes-of made) (length made) _ _ _ (reached-ago (suc (d .when)) .sound) tid (x .there) in
+      subst SomeMember (k .0 .participants ∙ ap (λ n. participantsOf (items n)) (k .1)) (coordinator-participates made (within 0 .few) (drop (suc (d .when)) es) tid (x .there))
+
+  decided-has-turn : (tid : ℕ) (bytes : List ℕ) → DecidedIn h tid true bytes → Some (λ n. n ≡ tid) (serial-run (item-book items) (r .past .log))
+  unfolding cluster-seen
+  decided-has-turn tid bytes d =
+      let q = decided-participates tid true bytes d in
+      let k = decided-known tid true bytes d in
+      committed-has-turn (item-book items) S (r .sound .invariant) tid (q .0) (every-has (voted-yes S tid) (members (participantsOf (items tid))) (q .0) k (q .1)) k
+
+  pub readsAsGiven : (tid : ℕ) (bytes : List ℕ) → DecidedIn h tid true bytes → serialTurn h tid ≡ SomeOf (record { compared = true; reads = bytes })
+  unfolding cluster-seen reached
+  readsAsGiven tid bytes d =
+      ap (λ ns. turnOf items (memoriesMade h) ns tid) (order-same h good faithful)
+      ∙ turn-found items (sizes-of made) (length made) (memoriesMade h) (sized h good faithful) S (r .sound .invariant) (made-same h good faithful) (serial-run (item-book items) (r .past .log))
+      (all-each _ within (serial-run (item-book items) (r .past .log))) (serial-fits (item-book items) S (r .sound .invariant) (item-book-lawful items)) tid (decided-has-turn tid bytes d)
+      ∙ ap (λ (bs : List ℕ). SomeOf (found-as true bs)) (sym (given-seen tid bytes d))

@@ -78,13 +78,13 @@ module _ (h : History) (good : isWellMade (h .beginning) ≡ true) (faithful : F
 
   -- ## Serial comparisons
 
-  sized : Sized (sizes-of made) (length made) (memoriesMade h)
+  pub sized : Sized (sizes-of made) (length made) (memoriesMade h)
   sized = record { number = length-map made (λ (s : Stores). s .cells); each = λ q. refl }
 
-  order-same : serialOrder h ≡ serial-run (item-book items) (r .past .log)
+  pub order-same : serialOrder h ≡ serial-run (item-book items) (r .past .log)
   order-same = ap (turns items) (sym (r .log)) ∙ turns-same items (r .past .log)
 
-  made-same : S .past .made ≡ made-cells items (sizes-of made) (length made) (memoriesMade h) sized
+  pub made-same : S .past .made ≡ made-cells items (sizes-of made) (length made) (memoriesMade h) sized
   unfolding cluster-seen
   made-same = reached-made made good es (faithful .fed) (faithful .answered)
 
