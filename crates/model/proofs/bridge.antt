@@ -31,6 +31,8 @@ pub mod Booked
 pub mod Withins
 pub mod Whole
 pub mod LawsRead
+pub mod Participating
+pub mod LawsDecided
 pub mod LawsShown
 pub mod LawsUnmade
 pub mod EveryLaw

@@ -40,7 +40,7 @@ use Rattle.model.proofs.bridge.Deliver.{step-delivers}
 
 -- ## Refusals
 
-first-none : (t : Bool) (r : Refusal) (o : Option Refusal) → cond t (SomeOf r) o ≡ None → (t ≡ false) × (o ≡ None)
+pub first-none : (t : Bool) (r : Refusal) (o : Option Refusal) → cond t (SomeOf r) o ≡ None → (t ≡ false) × (o ≡ None)
 first-none true r o h = absurd (let z : _≡_ {A = ℕ} 0 1 = cc in omega arith)
 first-none false r o h = (refl, h)
 

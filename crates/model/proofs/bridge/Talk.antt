@@ -108,7 +108,7 @@ module _ (items : ℕ → List Item) (sizes : ℕ → ℕ) (count : ℕ) (h : Pa
 
   -- ## decide
 
-  found-coordinator : (tid : ℕ) → hasCoordinator c tid ≡ true → CoordinatorFits items S (coordinatorOf c tid) × (coordinatorOf c tid .tid ≡ tid)
+  pub found-coordinator : (tid : ℕ) → hasCoordinator c tid ≡ true → CoordinatorFits items S (coordinatorOf c tid) × (coordinatorOf c tid .tid ≡ tid)
   found-coordinator tid there =
       let x = stands-some coordinatorTid tid (c .coordinators) there in
       (found-all coordinatorTid tid (CoordinatorFits items S) (c .coordinators) noCoordinator x (s .tables .coordinators), found-is coordinatorTid tid (c .coordinators) noCoordinator x)

@@ -71,7 +71,7 @@ module _ (made : List Stores) (good : isWellMade made ≡ true) where
     booked-all = booked-whole (sizes-of made) (length made) made (requests made es) within-of es refl
 
     -- every history of a cluster made well ends in a sound cluster
-    pub reached : Reached items-of (sizes-of made) (length made) within-of made es
+    unfoldable pub reached : Reached items-of (sizes-of made) (length made) within-of made es
     reached = reach items-of (sizes-of made) (length made) within-of made beginning es fed booked-all
 
     -- the run starts from the memories as made
