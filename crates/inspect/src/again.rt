@@ -25,7 +25,7 @@ use std::fmt;
 const LONGEST: usize = 192;
 
 /// Whether the items of a request, written again, have the bytes that they were read from.
-pub fn request_again(heap: Global, items: Items<'_>, bytes: &[u8]) -> Result<bool, AllocError>
+pub(crate) fn request_again(heap: Global, items: Items<'_>, bytes: &[u8]) -> Result<bool, AllocError>
     requires form { ⌜ isList (itemsMeaning items) ≡ true ⌝ }
     requires bytes { ⌜ encodeRequest (itemsMeaning items) ≡ now bytes ⌝ }
     ensures { λ r. ⌜ made r (λ same. same ≡ true) ⌝ }
@@ -39,7 +39,7 @@ pub fn request_again(heap: Global, items: Items<'_>, bytes: &[u8]) -> Result<boo
 }
 
 /// Whether a message, written again, has the bytes that it was read from.
-pub fn message_again(message: &Message<'_>, bytes: &[u8]) -> bool
+pub(crate) fn message_again(message: &Message<'_>, bytes: &[u8]) -> bool
     requires form { ⌜ isBody (bodyMeaning (now message .body)) ≡ true ⌝ }
     requires bytes { ⌜ encodeMessage (messageMeaning (now message)) ≡ now bytes ⌝ }
     ensures { λ r. ⌜ r ≡ true ⌝ }
@@ -52,7 +52,7 @@ pub fn message_again(message: &Message<'_>, bytes: &[u8]) -> bool
 }
 
 /// Whether the bytes are the same.
-pub fn say_again(out: &mut String, same: bool) -> fmt::Result
+pub(crate) fn say_again(out: &mut String, same: bool) -> fmt::Result
     ensures { λ r. ⌜ made r (λ _. string-bytes (now (out .exit)) ≡ string-bytes (now (out .entry)) ++ againText same) ⌝ }
 {
     if same {

@@ -24,7 +24,7 @@ use text::hex::read_hex;
 use text::line::without_last;
 
 /// What is said of a line without its end: a carriage return that it ends with is dropped.
-pub fn describe(heap: Global, line: &[u8]) -> Result<String, AnyError>
+pub(crate) fn describe(heap: Global, line: &[u8]) -> Result<String, AnyError>
     ensures { λ r. ⌜ made r (λ said. string-bytes said ≡ lineText (now (line .entry))) ⌝ }
 {
     let digits = without_last(line, b'\r');

@@ -13,7 +13,7 @@ use records::items::ItemsIterator;
 use std::fmt;
 
 /// Bytes in decimal, each behind a space.
-pub fn say_bytes(out: &mut String, bytes: &[u8]) -> fmt::Result
+pub(crate) fn say_bytes(out: &mut String, bytes: &[u8]) -> fmt::Result
     ensures { λ r. ⌜ made r (λ _. string-bytes (now (out .exit)) ≡ string-bytes (now (out .entry)) ++ bytesText (now (bytes .entry))) ⌝ }
 {
     for byte in bytes {
@@ -33,7 +33,7 @@ fn say_data(out: &mut String, deed: &str, node: u8, address: u16, data: &[u8]) -
 }
 
 /// One item, a line.
-pub fn say_item(out: &mut String, item: &Item<'_>) -> fmt::Result
+pub(crate) fn say_item(out: &mut String, item: &Item<'_>) -> fmt::Result
     ensures { λ r. ⌜ made r (λ _. string-bytes (now (out .exit)) ≡ string-bytes (now (out .entry)) ++ itemText (itemMeaning (now (item .entry)))) ⌝ }
 {
     match item {
@@ -68,7 +68,7 @@ pub fn say_item(out: &mut String, item: &Item<'_>) -> fmt::Result
 }
 
 /// The items to come, a line each.
-pub fn say_items(out: &mut String, items: Items<'_>) -> fmt::Result
+pub(crate) fn say_items(out: &mut String, items: Items<'_>) -> fmt::Result
     ensures { λ r. ⌜ made r (λ _. string-bytes (now (out .exit)) ≡ string-bytes (now (out .entry)) ++ itemsText (itemsMeaning (items .entry))) ⌝ }
 {
     for item in items {

@@ -52,7 +52,7 @@ fn say_party(out: &mut String, party: Party) -> fmt::Result
 }
 
 /// The kind, the tid, the sender and the receiver.
-pub fn say_header(out: &mut String, message: &Message<'_>) -> fmt::Result
+pub(crate) fn say_header(out: &mut String, message: &Message<'_>) -> fmt::Result
     ensures { λ r. ⌜ made r (λ _. string-bytes (now (out .exit)) ≡ string-bytes (now (out .entry)) ++ headerText (messageMeaning (now (message .entry)))) ⌝ }
 {
     let kind = kind_name(&message.body);
@@ -99,7 +99,7 @@ fn say_vote(out: &mut String, vote: Vote, reads: &[u8]) -> fmt::Result
 }
 
 /// What a message says, to the end of its lines.
-pub fn say_body(out: &mut String, body: &Body<'_>) -> fmt::Result
+pub(crate) fn say_body(out: &mut String, body: &Body<'_>) -> fmt::Result
     ensures { λ r. ⌜ made r (λ _. string-bytes (now (out .exit)) ≡ string-bytes (now (out .entry)) ++ bodyText (bodyMeaning (now (body .entry)))) ⌝ }
 {
     match body {
