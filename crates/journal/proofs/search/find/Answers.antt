@@ -21,8 +21,8 @@ returns-then-number-wanted g c =
     in let number = g .T·Numbered .numbered
     in let left = first xs i (c .index-elements-place .result) (c .loop-place-test .taken) (c .index-elements-place .is)
     in let here : place number (c .args .wanted) (drop i xs) ≡ 0 =
-        ap (place number (c .args .wanted)) left ∙
-        place-here number (c .args .wanted) _ _ (sym (c .number .ensures) ∙ c .if-number-wanted .taken)
+    ap (place number (c .args .wanted)) left ∙
+    place-here number (c .args .wanted) _ _ (sym (c .number .ensures) ∙ c .if-number-wanted .taken)
     in let inv = c .loop-place .inv
     in found-at number (c .args .wanted) i xs (omega (arith, here, inv)) (c .loop-place-test .taken)
 
@@ -33,8 +33,8 @@ loop-place-again g c =
     in let number = g .T·Numbered .numbered
     in let left = first xs i (c .index-elements-place .result) (c .loop-place-test .taken) (c .index-elements-place .is)
     in let more : place number (c .args .wanted) (drop i xs) ≡ suc (place number (c .args .wanted) (drop (i + 1) xs)) =
-        ap (place number (c .args .wanted)) left ∙
-        place-more number (c .args .wanted) _ _ (λ e. c .if-number-wanted .left (c .number .ensures ∙ e))
+    ap (place number (c .args .wanted)) left ∙
+    place-more number (c .args .wanted) _ _ (λ e. c .if-number-wanted .left (c .number .ensures ∙ e))
     in let inv : i + place number (c .args .wanted) (drop i xs) ≡ place number (c .args .wanted) xs = c .loop-place .inv
     in let again : i + 1 + place number (c .args .wanted) (drop (i + 1) xs) ≡ place number (c .args .wanted) xs = omega (arith, more, inv)
     in again
