@@ -1,2 +1,3 @@
 mod Taking
 mod Keeping
+mod Tables

@@ -1,4 +1,8 @@
 //! Journals: the redo logs of memory nodes, and the search by number that serves every table.
 
+pub mod entry;
+pub mod journal;
 pub mod search;
+pub mod table;
+pub mod view;
 pub mod write_set;
