@@ -1,3 +1,5 @@
 mod Taking
 mod Keeping
 mod Tables
+mod Looking
+mod Flushing

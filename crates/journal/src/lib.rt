@@ -2,6 +2,8 @@
 
 pub mod entry;
 pub mod journal;
+pub mod lookup;
+pub mod retiring;
 pub mod search;
 pub mod table;
 pub mod view;
