@@ -1,5 +1,5 @@
-mod Taking
+pub mod Taking
 mod Keeping
 mod Tables
-mod Looking
-mod Flushing
+pub mod Looking
+pub mod Flushing

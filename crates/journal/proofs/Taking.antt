@@ -6,13 +6,15 @@ use mathlib.Core.List.{List, [], _∷_, _++_, append-assoc, append-nil}
 use native.Mathlib.Omega.{arith}
 use lib.Dec.{eqb, ltb, leb}
 use lib.ListN.{length, take, drop, getD}
-use Rattle.std.proofs.shelf.Lists.{length-take-le}
-use Rattle.std.proofs.shelf.Tests.{and-parts, and-from}
+use Rattle.std.proofs.shelf.Lists.{length-take-le, take-all}
+use Rattle.std.proofs.shelf.Tests.{and-parts, and-from, cond-both}
 use Rattle.std.proofs.shelf.Ways.{tells}
 use Rattle.std.specs.declared.option.Option.{Option}
 use Rattle.std.specs.declared.option.Option.the-variants.{Some, None}
 use Rattle.model.specs.Items.{Item, compare, read, write}
 use Rattle.model.specs.ItemFormat.{encodeItem, encodeItems, isItem, areItems, decodeItem, decodeFields, takeItems, thenTake}
+use Rattle.model.specs.Lists.{only}
+use Rattle.model.specs.Ranges.{isWrite, writesIn}
 use Rattle.model.proofs.ReadsBack.{item-back}
 use Rattle.model.proofs.WritesAgain.{rung}
 
@@ -77,3 +79,16 @@ are-push [] i h e = and-from (isItem i) true e refl
 are-push (j ∷ is) i h e =
     let parts = and-parts (isItem j) (areItems is) h
     in and-from (isItem j) (areItems (is ++ i ∷ [])) (parts .0) (are-push is i (parts .1) e)
+
+-- ## The write items of a list
+
+only-bound : {X : Type 0} (test : X → Bool) (xs : List X) → length (only test xs) ≤ length xs
+unfolding only
+only-bound test [] = omega arith
+only-bound test (x ∷ xs) =
+    let h = only-bound test xs
+    in cond-both (test x) (x ∷ only test xs) (only test xs) (λ ys. length ys ≤ suc (length xs)) (λ t. omega arith) (λ t. omega arith)
+
+-- of a list that a record holds no write item is left out
+pub few-writes : (is : List Item) → length is ≤ 8 → take 8 (writesIn is) ≡ writesIn is
+few-writes is few = take-all 8 (writesIn is) (omega (arith, only-bound isWrite is))

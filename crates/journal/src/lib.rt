@@ -1,5 +1,6 @@
 //! Journals: the redo logs of memory nodes, and the search by number that serves every table.
 
+pub mod bounds;
 pub mod entry;
 pub mod journal;
 pub mod lookup;

@@ -2,15 +2,18 @@
 
 ghost use Prim.Native.Nat.{_≤_, _<_};
 ghost use mathlib.Core.Path.{_≡_};
-ghost use mathlib.Core.Bool.{_&&_, _||_};
 ghost use mathlib.Core.List.{map};
-ghost use lib.Dec.{leb, eqb};
 ghost use Rattle.std.specs.Of.Vec.{vec-items, vec-cap};
-ghost use Rattle.model.specs.Journal.{emptyJournal, restarted};
-ghost use Rattle.model.specs.Numbers.{mostEntries, mostForced, lastNumber};
+ghost use Rattle.model.specs.Journal.{emptyJournal, pending, restarted};
+ghost use Rattle.model.specs.Numbers.{mostForced};
 ghost use Rattle.journal.specs.Entries.{storedEntry, settledEntry};
 ghost use Rattle.journal.specs.Tables.{tableLog, usable};
 ghost use Rattle.journal.specs.Restarts.{Restarted, onlyDurable};
+use crate::bounds::MOST_ENTRIES;
+use crate::bounds::MOST_FORCED;
+use crate::bounds::forced_full;
+use crate::bounds::full;
+use crate::bounds::untouched;
 use crate::entry::Entry;
 use crate::entry::EntryTid;
 use crate::journal::Journal;
@@ -20,13 +23,6 @@ use crate::view::EntryView;
 use crate::write_set::WriteSet;
 use model::outcome::Outcome;
 use model::refusal::Refusal;
-
-/// Entries of one journal, at most.
-pub const MOST_ENTRIES: usize = 16;
-/// Forced aborts of one journal, at most.
-pub const MOST_FORCED: usize = 64;
-/// The last running number that can be given.
-pub const LAST_NUMBER: u16 = 65535;
 
 /// A journal over two given tables. A place is an index of the first; entries stand there in order, from 0 on.
 /// A restart loses every pending outcome.
@@ -73,30 +69,14 @@ fn usable_capacity(wanted: usize, places: usize, forced_places: usize) -> usize
     }
 }
 
-/// Whether so many entries leave no room for another, or no running number is left.
-fn full(capacity: usize, count: usize, highest: u16) -> bool
-    ensures { λ r. ⌜ r ≡ (leb capacity count || leb lastNumber highest) ⌝ }
+/// An outcome as it is noted: a loss of power may still take it.
+fn pending_outcome(commits: bool) -> Outcome
+    ensures { λ r. ⌜ r ≡ pending commits ⌝ }
 {
-    count >= capacity || highest >= LAST_NUMBER
-}
-
-/// Whether so many forced aborts leave no room for another.
-fn forced_full(capacity: usize, count: usize) -> bool
-    ensures { λ r. ⌜ r ≡ (leb mostForced count || eqb capacity 0) ⌝ }
-{
-    count >= MOST_FORCED || capacity == 0
-}
-
-/// Whether a journal with these parts is as it was made.
-fn untouched(count: usize, forced: usize, pointer: u16, highest: u16, capacity: usize) -> bool
-    ensures { λ r. ⌜ r ≡ (eqb count 0 && eqb forced 0 && eqb pointer 0 && eqb highest 0 && leb 1 capacity && leb capacity mostEntries) ⌝ }
-{
-    count == 0
-        && forced == 0
-        && pointer == 0
-        && highest == 0
-        && capacity >= 1
-        && capacity <= MOST_ENTRIES
+    Outcome {
+        commits,
+        durable: false,
+    }
 }
 
 /// Makes every outcome durable; the pending ones are kept or lost.
@@ -186,10 +166,7 @@ pub impl<const N: usize> Journal for TableJournal<N> as TableLog {
         let Some(place) = find(self.entries.as_slice(), tid) else {
             return Err(Refusal::NotReady);
         };
-        self.entries[place].outcome = Some(Outcome {
-            commits,
-            durable: false,
-        });
+        self.entries[place].outcome = Some(pending_outcome(commits));
         Ok(())
     }
 

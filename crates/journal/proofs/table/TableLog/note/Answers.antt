@@ -1,5 +1,5 @@
 -- The outcome of the first entry with the tid is set.
-use mathlib.Core.Path.{_≡_, refl, sym, ap, _∙_}
+use mathlib.Core.Path.{_≡_, sym, ap, _∙_}
 use mathlib.Core.Bool.{cond}
 use Rattle.std.specs.Of.Vec.{vec-items}
 use Rattle.std.specs.declared.option.Option.the-variants.{Some}
@@ -7,6 +7,7 @@ use Rattle.std.proofs.shelf.Tests.{cond-true, cond-false}
 use Rattle.model.specs.Lists.{placeIn}
 use Rattle.model.specs.Journal.{withEntries, withOutcome, entryOf, pending}
 use Rattle.journal.specs.declared.entry.Entry.{Entry}
+use Rattle.journal.specs.Entries.{storedEntry}
 use Rattle.journal.specs.Tables.{tableLog}
 use Rattle.journal.proofs.Tables.{noted-missing, noted-found}
 use Rattle.journal.proofs.table.TableLog.note.Needs as need
@@ -28,5 +29,5 @@ returns g c =
     in let there = noted-found es (c .args .tid) (c .in-Some .place) (c .index-mut .result .now) _ (Some (pending (c .args .commits)))
     (c .in-Some .ensures tt ∙ ap (placeIn (λ (e : Entry). e .tid) (c .args .tid)) (c .as-slice .ensures .value))
     (c .index-mut .ensures .value)
-    refl
+    (ap (λ o. withOutcome (storedEntry (c .index-mut .result .now)) (Some o)) (c .pending-outcome .ensures))
     in record { answer = sym (cond-true _ _ _ (there .0)); log = ap (withEntries log) (there .1) }
