@@ -19,7 +19,7 @@ use Rattle.model.specs.Lists.{place, placeIn, stands}
 use Rattle.model.specs.Journal.{Entry as PlainEntry, tidOf, noEntry, withOutcome, madeDurable, durably, outcomesLeft}
 use Rattle.model.specs.History.{OutcomeLeft, OutcomesLeft}
 use Rattle.journal.specs.declared.entry.Entry.{Entry}
-use Rattle.journal.specs.Entries.{storedEntry, settledEntry, settledOutcome}
+use Rattle.journal.specs.Entries.{storedEntry, durableEntry, durableOutcome}
 use Rattle.journal.specs.Restarts.{ifDurable, onlyDurable}
 
 abbrev tidIn : Entry → ℕ
@@ -90,23 +90,23 @@ shown-at es i e x within here same =
 
 -- ## A flush
 
-settled-kept : (e : Entry) → storedEntry (settledEntry true e) ≡ madeDurable (storedEntry e)
-settled-kept e = go (e .outcome)
+durable-kept : (e : Entry) → storedEntry (durableEntry true e) ≡ madeDurable (storedEntry e)
+durable-kept e = go (e .outcome)
   where
     go :
         (o : Option Outcome) →
-        withOutcome (storedEntry e) (settledOutcome true o) ≡
+        withOutcome (storedEntry e) (durableOutcome true o) ≡
         withOutcome (storedEntry e) (mapped (λ (p : Outcome). durably (p .commits)) o)
     go None = refl
     go (Some o) = refl
 
-pub settled-flushed : (es : List Entry) → map storedEntry (map (settledEntry true) es) ≡ map madeDurable (map storedEntry es)
-settled-flushed [] = refl
-settled-flushed (e ∷ es) = ap₂ (λ x xs. x ∷ xs) (settled-kept e) (settled-flushed es)
+pub durable-flushed : (es : List Entry) → map storedEntry (map (durableEntry true) es) ≡ map madeDurable (map storedEntry es)
+durable-flushed [] = refl
+durable-flushed (e ∷ es) = ap₂ (λ x xs. x ∷ xs) (durable-kept e) (durable-flushed es)
 
 -- ## A restart that loses every pending outcome
 
-lost : (o : Option Outcome) → settledOutcome false o ≡ mapped durably (ifDurable o)
+lost : (o : Option Outcome) → durableOutcome false o ≡ mapped durably (ifDurable o)
 lost None = refl
 lost (Some o) = go (o .durable)
   where
@@ -116,13 +116,13 @@ lost (Some o) = go (o .durable)
     go true = refl
     go false = refl
 
-pub settled-lost :
+pub durable-lost :
     (es : List Entry) →
-    map storedEntry (map (settledEntry false) es) ≡ outcomesLeft (map storedEntry es) (onlyDurable (map storedEntry es))
+    map storedEntry (map (durableEntry false) es) ≡ outcomesLeft (map storedEntry es) (onlyDurable (map storedEntry es))
 unfolding outcomesLeft
-settled-lost [] = refl
-settled-lost (e ∷ es) =
-    ap₂ (λ o xs. withOutcome (storedEntry e) o ∷ xs) (lost (e .outcome)) (settled-lost es)
+durable-lost [] = refl
+durable-lost (e ∷ es) =
+    ap₂ (λ o xs. withOutcome (storedEntry e) o ∷ xs) (lost (e .outcome)) (durable-lost es)
 
 may-lose : (o : Option Outcome) → OutcomeLeft o (ifDurable o)
 may-lose None = refl

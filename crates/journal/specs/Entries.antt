@@ -21,16 +21,16 @@ storedEntry e =
     record { running = e .running; tid = e .tid; participants = e .participants; writes = writesOf (e .writes); outcome = e .outcome }
 
 -- an outcome made durable; a pending one is kept or lost
-abbrev pub settledOutcome : Bool → Option Outcome → Option Outcome
-settledOutcome keeps None = None
-settledOutcome keeps (Some o) = cond (keeps || o .durable) (Some (durably (o .commits))) None
+abbrev pub durableOutcome : Bool → Option Outcome → Option Outcome
+durableOutcome keeps None = None
+durableOutcome keeps (Some o) = cond (keeps || o .durable) (Some (durably (o .commits))) None
 
-abbrev pub settledEntry : Bool → Entry → Entry
-settledEntry keeps e =
+abbrev pub durableEntry : Bool → Entry → Entry
+durableEntry keeps e =
     record {
       running = e .running;
       tid = e .tid;
       participants = e .participants;
       writes = e .writes;
-      outcome = settledOutcome keeps (e .outcome);
+      outcome = durableOutcome keeps (e .outcome);
     }

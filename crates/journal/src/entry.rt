@@ -1,7 +1,7 @@
 //! An entry as a table keeps it.
 
 ghost use mathlib.Core.Path.{_≡_};
-ghost use Rattle.journal.specs.Entries.{entryMeaning, storedEntry, settledEntry};
+ghost use Rattle.journal.specs.Entries.{entryMeaning, storedEntry, durableEntry};
 use crate::search::Numbered;
 use crate::view::EntryView;
 use crate::write_set::WriteSet;
@@ -46,8 +46,8 @@ impl Entry {
     }
 
     /// The entry with its outcome durable; a pending outcome is kept or lost.
-    pub(crate) fn settled(self, keeps_pending: bool) -> Entry
-        ensures { λ r. ⌜ r ≡ settledEntry «keeps_pending» self ⌝ }
+    pub(crate) fn made_durable(self, keeps_pending: bool) -> Entry
+        ensures { λ r. ⌜ r ≡ durableEntry «keeps_pending» self ⌝ }
     {
         let outcome = match self.outcome {
             Some(outcome) if keeps_pending || outcome.durable => Some(Outcome {

@@ -6,7 +6,7 @@ ghost use mathlib.Core.List.{map};
 ghost use Rattle.std.specs.Of.Vec.{vec-items, vec-cap};
 ghost use Rattle.model.specs.Journal.{emptyJournal, pending, restarted};
 ghost use Rattle.model.specs.Numbers.{mostForced};
-ghost use Rattle.journal.specs.Entries.{storedEntry, settledEntry};
+ghost use Rattle.journal.specs.Entries.{storedEntry, durableEntry};
 ghost use Rattle.journal.specs.Tables.{tableLog, usable};
 ghost use Rattle.journal.specs.Restarts.{Restarted, onlyDurable};
 use crate::bounds::MOST_ENTRIES;
@@ -80,12 +80,12 @@ fn pending_outcome(commits: bool) -> Outcome
 }
 
 /// Makes every outcome durable; the pending ones are kept or lost.
-fn settle(entries: &mut Vec<Entry>, keeps_pending: bool)
-    ensures items { λ _. ⌜ vec-items (now (entries .exit)) ≡ map (settledEntry «keeps_pending») (vec-items (now (entries .entry))) ⌝ }
+fn make_durable(entries: &mut Vec<Entry>, keeps_pending: bool)
+    ensures items { λ _. ⌜ vec-items (now (entries .exit)) ≡ map (durableEntry «keeps_pending») (vec-items (now (entries .entry))) ⌝ }
     ensures capacity { λ _. ⌜ vec-cap (now (entries .exit)) ≡ vec-cap (now (entries .entry)) ⌝ }
 {
     for index in 0..entries.len() {
-        let entry = entries[index].settled(keeps_pending);
+        let entry = entries[index].made_durable(keeps_pending);
         entries[index] = entry;
     }
 }
@@ -194,7 +194,7 @@ pub impl<const N: usize> Journal for TableJournal<N> as TableLog {
     }
 
     fn flush(&mut self) {
-        settle(&mut self.entries, true);
+        make_durable(&mut self.entries, true);
     }
 
     /// Every pending outcome is lost.
@@ -202,6 +202,6 @@ pub impl<const N: usize> Journal for TableJournal<N> as TableLog {
         ensures restarted { λ _. ⌜ Restarted (tableLog (vec-items (now (self .entry) .entries)) (vec-items (now (self .entry) .forced)) (now (self .entry) .pointer) (now (self .entry) .highest) (now (self .entry) .capacity)) (tableLog (vec-items (now (self .exit) .entries)) (vec-items (now (self .exit) .forced)) (now (self .exit) .pointer) (now (self .exit) .highest) (now (self .exit) .capacity)) ⌝ }
         ensures log { λ _. ⌜ (tableLog (vec-items (now (self .exit) .entries)) (vec-items (now (self .exit) .forced)) (now (self .exit) .pointer) (now (self .exit) .highest) (now (self .exit) .capacity)) ≡ restarted (tableLog (vec-items (now (self .entry) .entries)) (vec-items (now (self .entry) .forced)) (now (self .entry) .pointer) (now (self .entry) .highest) (now (self .entry) .capacity)) (onlyDurable (map storedEntry (vec-items (now (self .entry) .entries)))) ⌝ }
     {
-        settle(&mut self.entries, false);
+        make_durable(&mut self.entries, false);
     }
 }
