@@ -25,7 +25,11 @@ use std::fmt;
 const LONGEST: usize = 192;
 
 /// Whether the items of a request, written again, have the bytes that they were read from.
-pub(crate) fn request_again(heap: Global, items: Items<'_>, bytes: &[u8]) -> Result<bool, AllocError>
+pub(crate) fn request_again(
+    heap: Global,
+    items: Items<'_>,
+    bytes: &[u8],
+) -> Result<bool, AllocError>
     requires form { ⌜ isList (itemsMeaning items) ≡ true ⌝ }
     requires bytes { ⌜ encodeRequest (itemsMeaning items) ≡ now bytes ⌝ }
     ensures { λ r. ⌜ made r (λ same. same ≡ true) ⌝ }

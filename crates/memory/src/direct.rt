@@ -6,10 +6,10 @@ ghost use mathlib.Core.Bool.{true};
 ghost use Rattle.std.specs.Of.Vec.{vec-items, vec-len};
 ghost use Rattle.model.specs.Numbers.{mostBytes};
 ghost use Rattle.model.specs.Memory.{capped, AllDurable, Survived};
-use crate::MOST_BYTES;
 use crate::Memory;
 use crate::range::fits;
 use crate::range::overwrite;
+use model::numbers::MOST_BYTES;
 use model::refusal::Refusal;
 
 /// Bytes that are durable as soon as they are written.

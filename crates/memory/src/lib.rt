@@ -17,9 +17,6 @@ ghost use Rattle.model.specs.Numbers.{mostBytes};
 ghost use Rattle.model.specs.Memory.{within, part, splice, AllDurable, Kept, Survived};
 use model::refusal::Refusal;
 
-/// The most bytes that a memory has.
-pub const MOST_BYTES: usize = 4096;
-
 /// A store of up to 4,096 bytes, each of them durable or volatile.
 pub trait Memory {
     // The bytes as they read now.

@@ -10,11 +10,11 @@ ghost use Rattle.std.specs.declared.result.Result.the-variants.{Ok, Err};
 ghost use Rattle.model.specs.Numbers.{mostBytes};
 ghost use Rattle.model.specs.Memory.{within, paired, splice, AllDurable, Kept, Survived};
 ghost use Rattle.memory.specs.Shadow.{agree};
-use crate::MOST_BYTES;
 use crate::Memory;
 use crate::range::fits;
 use crate::range::overwrite;
 use crate::range::refill;
+use model::numbers::MOST_BYTES;
 use model::refusal::Refusal;
 
 /// A working half and its image; a byte is durable exactly where they agree.

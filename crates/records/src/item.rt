@@ -2,7 +2,8 @@
 
 ghost use mathlib.Core.Path.{_≡_};
 ghost use Rattle.model.specs.ItemFormat.{decodeItem};
-ghost use Rattle.records.specs.Meaning.{splitMeaning};
+ghost use Rattle.model.specs.Ranges.{isWrite};
+ghost use Rattle.records.specs.Meaning.{itemMeaning, splitMeaning};
 use model::numbers::LONGEST_ITEM;
 
 /// The bytes of an item before its data: kind, node, address and length.
@@ -29,6 +30,18 @@ pub enum Item<'a> {
         address: u16,
         data: &'a [u8],
     },
+}
+
+impl<'a> Item<'a> {
+    /// Whether it puts bytes.
+    pub fn is_write(&self) -> bool
+        ensures { λ r. ⌜ r ≡ isWrite (itemMeaning (now (self .entry))) ⌝ }
+    {
+        match self {
+            Item::Write { .. } => true,
+            _ => false,
+        }
+    }
 }
 
 /// The item at the start of some bytes, and the bytes behind it; none where there is no whole item.

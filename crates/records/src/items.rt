@@ -4,7 +4,7 @@ ghost use mathlib.Core.Path.{_≡_};
 ghost use mathlib.Core.Bool.{Bool};
 ghost use lib.ListN.{length};
 ghost use Rattle.std.specs.Options.{isSome, okOr};
-ghost use Rattle.model.specs.ItemFormat.{decodeItems, decodeList};
+ghost use Rattle.model.specs.ItemFormat.{decodeItems, decodeList, takeItems};
 ghost use Rattle.records.specs.Cursor.{itemsMeaning, ItemStep, listMeaning};
 ghost use Rattle.model.specs.declared.refusal.Refusal.the-variants.{Malformed};
 use crate::item::Item;
@@ -38,6 +38,13 @@ impl<'a> Items<'a> {
         } else {
             Err(Refusal::Malformed)
         }
+    }
+
+    /// The items at the start of some bytes, as far as they can be read: so many at most.
+    pub fn up_to(count: usize, bytes: &'a [u8]) -> Items<'a>
+        ensures { λ r. ⌜ itemsMeaning r ≡ takeItems count (now (bytes .entry)) ⌝ }
+    {
+        Items { left: count, bytes }
     }
 
     /// How many items are still to come.

@@ -9,6 +9,8 @@ ghost use lib.ListN.{length};
 ghost use Rattle.model.specs.Bytes.{splice, placed};
 ghost use Rattle.model.specs.ItemFormat.{be16, encodeItem, isItem};
 ghost use Rattle.records.specs.Meaning.{itemMeaning};
+ghost use Rattle.records.specs.Extents.{hasRoom};
+ghost use Rattle.std.specs.Options.{isSome};
 use crate::item::FIELDS;
 use crate::item::Item;
 use model::numbers::LONGEST_ITEM;
@@ -29,6 +31,21 @@ pub fn be_bytes(number: u16) -> [u8; 2]
     ensures { λ r. ⌜ r ≡ be16 number ⌝ }
 {
     number.to_be_bytes()
+}
+
+/// Puts an item into a buffer from a place on, and gives the place behind it;
+/// where no record holds the item, or it does not fit, there is no such place and the buffer stays as it is.
+pub fn put_one(buffer: &mut [u8], at: usize, item: &Item<'_>) -> Option<usize>
+    ensures end { λ r. ⌜ r ≡ cond (hasRoom (now (buffer .entry)) at (itemMeaning (now (item .entry)))) (Some (at + length (encodeItem (itemMeaning (now (item .entry)))))) None ⌝ }
+    ensures bytes { λ r. ⌜ now (buffer .exit) ≡ cond (isSome r) (splice (now (buffer .entry)) at (encodeItem (itemMeaning (now (item .entry))))) (now (buffer .entry)) ⌝ }
+{
+    let Some(size) = item_size(item) else {
+        return None;
+    };
+    if buffer.len() < size || buffer.len() - size < at {
+        return None;
+    }
+    Some(put_item(buffer, at, item))
 }
 
 /// How many bytes an item takes in a record; none where no record holds it.

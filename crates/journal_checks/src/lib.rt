@@ -1,0 +1,4 @@
+//! Table journals on examples. There is nothing here but tests.
+
+#[cfg(test)]
+mod table;
