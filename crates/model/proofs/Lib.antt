@@ -6,6 +6,7 @@ pub mod ReadsBack
 pub mod WritesAgain
 pub mod MessageReadsBack
 pub mod MessageWritesAgain
+pub mod OneRecord
 mod Computing
 mod Examples
 mod Edges

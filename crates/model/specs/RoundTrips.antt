@@ -29,3 +29,13 @@ abbrev pub Message-writes-again : Type 0
 Message-writes-again =
     (bs : List ℕ) (m : Message) →
     Bytes bs → decodeMessage bs ≡ Some m → (isBody (m .body) ≡ true) × (encodeMessage m ≡ bs)
+
+-- each value has one record, and each record one value of its sort
+pub record OneToOne : Type 0 where
+  pub requestsReadBack : Request-reads-back
+  pub requestsWrittenAgain : Request-writes-again
+  pub requestsDiffer : (is js : List Item) → isList is ≡ true → isList js ≡ true → encodeRequest is ≡ encodeRequest js → is ≡ js
+  pub messagesReadBack : Message-reads-back
+  pub messagesWrittenAgain : Message-writes-again
+  pub messagesDiffer :
+      (m n : Message) → isBody (m .body) ≡ true → isBody (n .body) ≡ true → encodeMessage m ≡ encodeMessage n → m ≡ n

@@ -2,6 +2,7 @@
 //! and in specs/ the formats and the rules that the other crates are proved against.
 
 pub mod condition;
+pub mod formats;
 pub mod laws;
 pub mod numbers;
 pub mod outcome;
