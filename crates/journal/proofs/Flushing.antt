@@ -6,7 +6,7 @@ use Rattle.std.specs.Option.{option_map}
 use Rattle.model.specs.declared.outcome.Outcome.{Outcome}
 use Rattle.model.specs.Items.{Item}
 use Rattle.model.specs.Lists.{place}
-use Rattle.model.specs.Journal.{Journal as Log, Entry as PlainEntry, tid_of, has_entry, entry_of, is_full, is_empty, added, noted, flushed, restarted, next_entry, node_with_entries, with_outcome, made_durable, durably, pending, outcomes_left}
+use Rattle.model.specs.Journal.{Journal as Log, Entry as PlainEntry, tid_of, has_entry, entry_of, is_full, is_empty, added, noted, flushed, restarted, next_entry, with_entries, with_outcome, made_durable, durably, pending, outcomes_left}
 use Rattle.model.specs.History.{OutcomeLeft, OutcomesLeft}
 use Rattle.model.proofs.Searching.{place_here}
 use Rattle.journal.specs.Restarts.{Restarted}
@@ -34,7 +34,7 @@ flushed_stay (e ∷ es) (o ∷ left) p =
 pub restart_flushed : (j flat after : Log) → flat ≡ flushed j → Restarted flat after → after ≡ flushed j
 restart_flushed j flat after e r =
     let allowed = subst (λ (k : Log). OutcomesLeft k.entries r.left) e r.allowed
-    in r.holds ∙ ap (λ (k : Log). restarted k r.left) e ∙ ap (node_with_entries j) (flushed_stay j.entries r.left allowed)
+    in r.holds ∙ ap (λ (k : Log). restarted k r.left) e ∙ ap (with_entries j) (flushed_stay j.entries r.left allowed)
 
 -- ## An entry that was added
 

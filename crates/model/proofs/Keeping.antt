@@ -10,7 +10,7 @@ use Rattle.model.specs.Items.{Item, compare, read, write}
 use Rattle.model.specs.Lists.{every, place}
 use Rattle.model.specs.Cells.{Cell, within, splice, written_at}
 use Rattle.model.specs.Ranges.{put_item}
-use Rattle.model.specs.Journal.{Entry, Journal, empty_journal, is_full, is_forced, is_forced_full, is_as_made, is_empty, next_entry, added, forced_in, noted, dropped, flushed, pointed, restarted, outcomes_left, node_with_entries, with_outcome, entry_of, tid_of, pending, made_durable}
+use Rattle.model.specs.Journal.{Entry, Journal, empty_journal, is_full, is_forced, is_forced_full, is_as_made, is_empty, next_entry, added, forced_in, noted, dropped, flushed, pointed, restarted, outcomes_left, with_entries, with_outcome, entry_of, tid_of, pending, made_durable}
 use Rattle.model.specs.Writes.{Stores, Write, add_entry, force, note, put, flush_memory, flush_journal, point, drop_oldest, applied, applied_all}
 use Rattle.model.specs.Node.{Node, Left, none_left, cells_of, journal_of, no_node, nothing_but}
 use Rattle.model.specs.Cluster.{Cluster, node_at}
@@ -52,7 +52,7 @@ forced_bounded j tid b = cond_both (is_forced j tid || is_forced_full j) _ _ Jou
         }
 
 -- entries that are not more
-entries_bounded : (j : Journal) (es : List Entry) → length es ≤ length j.entries → JournalBounded j → JournalBounded (node_with_entries j es)
+entries_bounded : (j : Journal) (es : List Entry) → length es ≤ length j.entries → JournalBounded j → JournalBounded (with_entries j es)
 entries_bounded j es l b = record { entries = omega (arith, l, b.entries); capacity = b.capacity; forced = b.forced; running = b.running }
 
 applied_bounded : (w : Write) (s : Stores) → JournalBounded s.journal → JournalBounded (applied w s).journal

@@ -8,7 +8,7 @@ use Rattle.model.specs.ItemFormat.{span}
 use Rattle.model.specs.Lists.{place}
 use Rattle.model.specs.Cells.{within, written_at}
 use Rattle.model.specs.Ranges.{is_write, address_of, put_item}
-use Rattle.model.specs.Journal.{Entry, Journal, tid_of, is_full, is_forced, is_forced_full, has_entry, is_empty, added, forced_in, noted, dropped, node_with_entries, with_outcome, entry_of, pending}
+use Rattle.model.specs.Journal.{Entry, Journal, tid_of, is_full, is_forced, is_forced_full, has_entry, is_empty, added, forced_in, noted, dropped, with_entries, with_outcome, entry_of, pending}
 use Rattle.model.specs.Writes.{Stores, Write, add_entry, force, note, put, flush_memory, flush_journal, point, drop_oldest, with_journal, with_cells, refusal_of, applied, applied_all, applied_until, then_applied, Accepted}
 use Rattle.model.specs.Bookkeeping.{WritesAreTotal}
 use Rattle.model.proofs.Telling.{some_not_none, not-false}
@@ -44,7 +44,7 @@ forced_refused j tid h = go (is_forced j tid) (is_forced_full j) h
 noted_refused : (j : Journal) (tid : ℕ) (b : Bool) → has_entry j tid ≡ false → noted j tid b ≡ j
 noted_refused j tid b h =
     let i = place tid_of tid j.entries in
-    ap (λ es. node_with_entries j es) (set_past j.entries i (with_outcome (entry_of j tid) (Some (pending b))) (ltb-false i (length j.entries) h))
+    ap (λ es. with_entries j es) (set_past j.entries i (with_outcome (entry_of j tid) (Some (pending b))) (ltb-false i (length j.entries) h))
 
 empty_entries : (es : List Entry) → eqb (length es) 0 ≡ true → drop 1 es ≡ es
 empty_entries [] h = refl
@@ -66,7 +66,7 @@ write_refused flush_memory s r h = refl
 write_refused flush_journal s r h = absurd (some_not_none r (sym h))
 write_refused (point n) s r h = absurd (some_not_none r (sym h))
 write_refused drop_oldest s r h =
-    ap (λ es. with_journal s (node_with_entries s.journal es)) (empty_entries s.journal.entries (told_true (is_empty s.journal) NotReady r h))
+    ap (λ es. with_journal s (with_entries s.journal es)) (empty_entries s.journal.entries (told_true (is_empty s.journal) NotReady r h))
 
 all_accepted : (ws : List Write) (s : Stores) → Accepted ws s → applied_until ws s ≡ (None, applied_all ws s)
 unfolding applied_until applied_all

@@ -16,7 +16,7 @@ use Rattle.model.specs.Making.{making}
 use Rattle.model.specs.Calls.{Call, opens, delivers, loses, decides, leaves, recovers, rules, stops, cuts, wakes, inquires, resumes, settles, queries, collects, shows, step, first_of, open_refusals, place_refusals, wake_refusals, resume_refusals, settle_refusals, collect_refusals, message_at, without_message}
 use Rattle.model.specs.Deeds.{Deed, asked, wrote, woke, nothing, unless, asked_for, reacted_with, received_by, deed_of, deed, wrote_by}
 use Rattle.model.specs.History.{Event, History, Faithful, Fed, Answered, following, written_since, LeftBy, LeftOf, OutcomeLeft, OutcomesLeft}
-use Rattle.model.specs.Samples.{left_by_lem, left_of, durable_outcome, events_of, history_of}
+use Rattle.model.specs.Samples.{left_by, left_of, durable_outcome, events_of, history_of}
 
 outcome_left : (o : Option Outcome) → OutcomeLeft o (durable_outcome o)
 outcome_left None = refl
@@ -55,7 +55,7 @@ module _ (c : Cluster) (t : ℕ → ℕ → Bool) (l : Left) where
   left_if true d h = h
   left_if false d h = tt
 
-left_deed : (c : Cluster) (t : ℕ → ℕ → Bool) (call : Call) → LeftBy c t (deed_of c call) (left_by_lem c call)
+left_deed : (c : Cluster) (t : ℕ → ℕ → Bool) (call : Call) → LeftBy c t (deed_of c call) (left_by c call)
 left_deed c t (opens bs) = left_asked c t none_left (decode_request bs)
 left_deed c t (delivers i f) =
     left_unless c t none_left (first_of (place_refusals c i)) (received_by (message_at c i).receiver (without_message c i) (message_at c i) f)
@@ -75,9 +75,9 @@ left_deed c t (queries q o) = tt
 left_deed c t (collects q f) = left_unless c t none_left (first_of (collect_refusals c q)) (wrote_by q f (collecting (node_at c q))) tt
 left_deed c t (shows q a n) = tt
 
-left_by_lem : (c : Cluster) (t : ℕ → ℕ → Bool) (call : Call) → LeftBy c t (deed c call) (left_by_lem c call)
+left_by_lem : (c : Cluster) (t : ℕ → ℕ → Bool) (call : Call) → LeftBy c t (deed c call) (left_by c call)
 unfolding deed
-left_by_lem c t call = left_if c t (left_by_lem c call) c.well_made (deed_of c call) (left_deed c t call)
+left_by_lem c t call = left_if c t (left_by c call) c.well_made (deed_of c call) (left_deed c t call)
 
 -- what is faithful stays so when calls are added
 pub added_faithful : (made : List Stores) (es : List Event) (c : Cluster) → c ≡ following made es → Fed made es × Answered made es
@@ -85,11 +85,11 @@ pub added_faithful : (made : List Stores) (es : List Event) (c : Cluster) → c 
 unfolding events_of following
 added_faithful made es c same (fed, told) [] = (fed, told)
 added_faithful made es c same (fed, told) (call ∷ calls) =
-    let r = step c call (left_by_lem c call) in
-    let e : Event = record { call = call; left = left_by_lem c call; answer = r.0 } in
-    added_faithful made (e ∷ es) r.1 (ap (λ b. (step b call (left_by_lem c call)).1) same) (
-      (subst (λ b. LeftBy b (written_since made es) (deed b call) (left_by_lem c call)) same (left_by_lem c (written_since made es) call), fed),
-      (ap (λ b. (step b call (left_by_lem c call)).0) same, told),
+    let r = step c call (left_by c call) in
+    let e : Event = record { call = call; left = left_by c call; answer = r.0 } in
+    added_faithful made (e ∷ es) r.1 (ap (λ b. (step b call (left_by c call)).1) same) (
+      (subst (λ b. LeftBy b (written_since made es) (deed b call) (left_by c call)) same (left_by_lem c (written_since made es) call), fed),
+      (ap (λ b. (step b call (left_by c call)).0) same, told),
     )
     calls
 

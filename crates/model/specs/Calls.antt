@@ -18,7 +18,7 @@ use Rattle.model.specs.Ranges.{node_of, address_of, items_at}
 use Rattle.model.specs.Participants.{includes, members, every_member, participants_of}
 use Rattle.model.specs.Journal.{Journal, is_empty, oldest, past, says}
 use Rattle.model.specs.Writes.{fails}
-use Rattle.model.specs.Node.{Node, Left, none_left, cells_of, journal_of, up_here, is_down, is_recovering, powerless, is_in_doubt, doubt_of, is_unresolved, unresolved_of, some_unresolved, recovering as restarting}
+use Rattle.model.specs.Node.{Node, Left, none_left, cells_of, journal_of, is_up, is_down, is_recovering, powerless, is_in_doubt, doubt_of, is_unresolved, unresolved_of, some_unresolved, recovering as restarting}
 use Rattle.model.specs.Handling.{Effect, Reaction, lost, taken, carried_out, reaction, resuming, settling, collecting}
 use Rattle.model.specs.Cluster.{Cluster, Coordinator, Recovery, has_node, node_at, with_node, with_network, sent, has_room, no_message, to_each, with_coordinators, coordinator_tid, new_coordinator, has_coordinator, coordinator_of, with_vote, all_voted, decision, votes_of, reads_of, with_recoveries, recovery_number, new_recovery, has_recovery, recovery_of, with_reply, all_replied, ruling}
 
@@ -86,7 +86,7 @@ carried c q budget e a =
 -- ## Tests on the nodes that a call names
 
 abbrev pub is_up_at : Cluster → ℕ → Bool
-is_up_at c q = up_here (node_at c q).volatile.condition
+is_up_at c q = is_up (node_at c q).volatile.condition
 
 abbrev pub is_down_at : Cluster → ℕ → Bool
 is_down_at c q = is_down (node_at c q).volatile.condition

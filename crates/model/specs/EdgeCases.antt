@@ -50,8 +50,8 @@ filling_journal =
     ∷ delivers 0 255 ∷ delivers 0 255 ∷ delivers 0 255 ∷ delivers 0 255
     ∷ []
 
-abbrev pub one_more_lem : ℕ → Item → List Call
-one_more_lem n i = asks (i ∷ []) ∷ delivers 0 255 ∷ delivers 0 255 ∷ decides n 128 ∷ loses 0 ∷ []
+abbrev pub one_more : ℕ → Item → List Call
+one_more n i = asks (i ∷ []) ∷ delivers 0 255 ∷ delivers 0 255 ∷ decides n 128 ∷ loses 0 ∷ []
 
 pub record EdgeCases : Type 0 where
   -- a request whose length field says 7 in place of 8 is malformed
@@ -72,7 +72,7 @@ pub record EdgeCases : Type 0 where
       ≡ (opened 1 ∷ delivered true ∷ recovering 1 ∷ delivered true
       ∷ delivered true ∷ delivered true ∷ delivered true ∷ decided false (Yes ∷ Forced ∷ []) [] ∷ [])
   -- a comparison that fails comes before a full journal
-  pub mismatch_first : answers (after two_nodes filling_journal) (one_more_lem 5 (compare 0 50 (9 ∷ [])) ++ one_more_lem 6 (compare 0 50 (0 ∷ [])))
+  pub mismatch_first : answers (after two_nodes filling_journal) (one_more 5 (compare 0 50 (9 ∷ [])) ++ one_more 6 (compare 0 50 (0 ∷ [])))
       ≡ (opened 5 ∷ delivered true ∷ delivered true ∷ decided false (Mismatch ∷ []) [] ∷ done
       ∷ opened 6 ∷ delivered true ∷ delivered true ∷ decided false (Full ∷ []) [] ∷ done ∷ [])
   -- the 64th forced abort is taken, the 65th inquiry is lost

@@ -80,8 +80,8 @@ is_as_made j =
 
 -- ## Edits. One that the journal refuses alters nothing.
 
-abbrev pub node_with_entries : Journal → List Entry → Journal
-node_with_entries j es =
+abbrev pub with_entries : Journal → List Entry → Journal
+with_entries j es =
     record { entries = es; forced = j.forced; pointer = j.pointer; highest = j.highest; capacity = j.capacity }
 
 abbrev pub with_outcome : Entry → Option Outcome → Entry
@@ -125,18 +125,18 @@ durably b = record { commits = b; durable = true }
 -- an outcome for the first entry of a tid, pending until the next flush
 abbrev pub noted : Journal → ℕ → Bool → Journal
 noted j tid b =
-    node_with_entries j (slice_set j.entries (place tid_of tid j.entries) (with_outcome (entry_of j tid) (Some (pending b))))
+    with_entries j (slice_set j.entries (place tid_of tid j.entries) (with_outcome (entry_of j tid) (Some (pending b))))
 
 -- without the oldest entry
 abbrev pub dropped : Journal → Journal
-dropped j = node_with_entries j (drop 1 j.entries)
+dropped j = with_entries j (drop 1 j.entries)
 
 abbrev pub made_durable : Entry → Entry
 made_durable e = with_outcome e (option_map (λ (o : Outcome). durably o.commits) e.outcome)
 
 -- every outcome is durable
 abbrev pub flushed : Journal → Journal
-flushed j = node_with_entries j (map made_durable j.entries)
+flushed j = with_entries j (map made_durable j.entries)
 
 abbrev pub pointed : Journal → ℕ → Journal
 pointed j n =
@@ -150,4 +150,4 @@ outcomes_left (e ∷ es) [] = with_outcome e None ∷ outcomes_left es []
 outcomes_left (e ∷ es) (o ∷ left) = with_outcome e (option_map durably o) ∷ outcomes_left es left
 
 abbrev pub restarted : Journal → List (Option Bool) → Journal
-restarted j left = node_with_entries j (outcomes_left j.entries left)
+restarted j left = with_entries j (outcomes_left j.entries left)

@@ -43,10 +43,10 @@ journal_of n = n.stores.journal
 
 -- ## Conditions
 
-abbrev pub up_here : Condition → Bool
-up_here Up = true
-up_here Down = false
-up_here Recovering = false
+abbrev pub is_up : Condition → Bool
+is_up Up = true
+is_up Down = false
+is_up Recovering = false
 
 abbrev pub is_down : Condition → Bool
 is_down Up = false

@@ -33,24 +33,24 @@ durable_outcome (Some o) = cond o.durable (Some o.commits) None
 abbrev pub left_of : Node → Left
 left_of n = record { cells = cells_of n; outcomes = map (λ (e : Entry). durable_outcome e.outcome) (journal_of n).entries }
 
-abbrev pub left_by_lem : Cluster → Call → Left
-left_by_lem c call = left_at (λ q. left_of (node_at c q)) call
+abbrev pub left_by : Cluster → Call → Left
+left_by c call = left_at (λ q. left_of (node_at c q)) call
 
 -- the cluster after calls, and their answers, in order
 unfoldable pub after : Cluster → List Call → Cluster
 after c [] = c
-after c (call ∷ calls) = after (step c call (left_by_lem c call)).1 calls
+after c (call ∷ calls) = after (step c call (left_by c call)).1 calls
 
 -- the history of these calls, added to events before them
 unfoldable pub events_of : Cluster → List Event → List Call → List Event
 events_of c es [] = es
 events_of c es (call ∷ calls) =
-    let r = step c call (left_by_lem c call) in
-    events_of r.1 (record { call = call; left = left_by_lem c call; answer = r.0 } ∷ es) calls
+    let r = step c call (left_by c call) in
+    events_of r.1 (record { call = call; left = left_by c call; answer = r.0 } ∷ es) calls
 
 abbrev pub history_of : List Stores → List Call → History
 history_of made calls = record { beginning = made; events = events_of (making made) [] calls }
 
 unfoldable pub answers : Cluster → List Call → List Answer
 answers c [] = []
-answers c (call ∷ calls) = let r = step c call (left_by_lem c call) in r.0 ∷ answers r.1 calls
+answers c (call ∷ calls) = let r = step c call (left_by c call) in r.0 ∷ answers r.1 calls

@@ -5,7 +5,7 @@ use Rattle.std.proofs.lemmas.List.{length-map}
 use Rattle.model.specs.declared.condition.Condition.TheVariants.{Up, Down}
 use Rattle.model.specs.Items.{Item}
 use Rattle.model.specs.Journal.{Entry, tid_of, is_full}
-use Rattle.model.specs.Node.{Node, Doubt, doubt_tid, journal_of, up_here}
+use Rattle.model.specs.Node.{Node, Doubt, doubt_tid, journal_of, is_up}
 use Rattle.model.specs.Cluster.{node_at}
 use Rattle.model.specs.Making.{is_well_made}
 use Rattle.model.specs.Handling.{is_crowded}
@@ -38,7 +38,7 @@ doubts_stand ms [] f = tt
 doubts_stand ms (d ∷ ds) f = (f d.tid (inl refl), doubts_stand ms ds (λ tid x. f tid (inr x)))
 
 -- each has an entry of its own
-pub doubts_few : (h : History) (good : is_well_made h.beginning ≡ true) (faithful : Faithful h) (q : ℕ) → up_here (node_at (plain h) q).volatile.condition ≡ true
+pub doubts_few : (h : History) (good : is_well_made h.beginning ≡ true) (faithful : Faithful h) (q : ℕ) → is_up (node_at (plain h) q).volatile.condition ≡ true
     → length (node_at (plain h) q).volatile.in_doubt ≤ length (journal_of (node_at (plain h) q)).entries
 doubts_few h good faithful q u =
     let n = node_at (plain h) q in

@@ -10,7 +10,7 @@ use Rattle.model.specs.Answers.{refused, shown}
 use Rattle.model.specs.Cells.{Cell, within, read_at}
 use Rattle.model.specs.Ranges.{items_at, writes_byte}
 use Rattle.model.specs.Writes.{Stores}
-use Rattle.model.specs.Node.{Doubt, cells_of, journal_of, up_here, none_left, written_in_doubt}
+use Rattle.model.specs.Node.{Doubt, cells_of, journal_of, is_up, none_left, written_in_doubt}
 use Rattle.model.specs.Cluster.{Cluster, node_at}
 use Rattle.model.specs.Making.{is_well_made}
 use Rattle.model.specs.Calls.{shows, Result, answered, first_of, show_refusals, performed, step}
@@ -49,7 +49,7 @@ answered_shows : (c : Cluster) (q a n : ℕ) (bytes : List ℕ) (r : Option Refu
 answered_shows c q a n bytes None e h =
     let hs = none_holds (show_refusals c q a n) e in
     record {
-      up_here = up_is (node_at c q).volatile.condition (not-false (up_here (node_at c q).volatile.condition) hs.1.0);
+      up_here = up_is (node_at c q).volatile.condition (not-false (is_up (node_at c q).volatile.condition) hs.1.0);
       fits = leb-true (a + n) (length (cells_of (node_at c q))) (not-false (within (cells_of (node_at c q)) a n) hs.1.1.1.0);
       same = cc;
     }

@@ -10,7 +10,7 @@ use Rattle.model.specs.Cells.{Cell}
 use Rattle.model.specs.Requests.{decode_request}
 use Rattle.model.specs.Answers.{done}
 use Rattle.model.specs.Journal.{Entry, is_empty, oldest}
-use Rattle.model.specs.Node.{Node, Left, journal_of, up_here, is_down, is_recovering, is_unresolved, unresolved_of, some_unresolved, is_in_doubt, recovering as restarting}
+use Rattle.model.specs.Node.{Node, Left, journal_of, is_up, is_down, is_recovering, is_unresolved, unresolved_of, some_unresolved, is_in_doubt, recovering as restarting}
 use Rattle.model.specs.Cluster.{Cluster, has_node, node_at, with_node, has_coordinator, coordinator_of, all_voted, has_recovery, recovery_of, all_replied}
 use Rattle.model.specs.Calls.{Call, opens, delivers, loses, decides, leaves, recovers, rules, stops, cuts, wakes, inquires, resumes, settles, queries, collects, shows, Result, first_of, answered, open_items, open_refusals, opening, performed, is_collectable, is_other, carried, wake_refusals}
 use Rattle.model.specs.Handling.{collecting}
@@ -35,7 +35,7 @@ pub first_none : (t : Bool) (r : Refusal) (o : Option Refusal) → cond t (SomeO
 first_none true r o h = absurd (let z : ◌≡◌ {A = ℕ} 0 1 = cc in omega arith)
 first_none false r o h = (refl, h)
 
-pub up_is : (d : Condition) → up_here d ≡ true → d ≡ Up
+pub up_is : (d : Condition) → is_up d ≡ true → d ≡ Up
 up_is Up h = refl
 up_is Down h = cc
 up_is Recovering h = cc
@@ -58,8 +58,8 @@ module _ (items : ℕ → List Item) (sizes : ℕ → ℕ) (count : ℕ) (within
   there : (q : ℕ) → not (has_node c q) ≡ false → q < length c.nodes
   there q z = ltb-true q (length c.nodes) (not-false (has_node c q) z)
 
-  up_at : (q : ℕ) → not (up_here (node_at c q).volatile.condition) ≡ false → (node_at c q).volatile.condition ≡ Up
-  up_at q z = up_is (node_at c q).volatile.condition (not-false (up_here (node_at c q).volatile.condition) z)
+  up_at : (q : ℕ) → not (is_up (node_at c q).volatile.condition) ≡ false → (node_at c q).volatile.condition ≡ Up
+  up_at q z = up_is (node_at c q).volatile.condition (not-false (is_up (node_at c q).volatile.condition) z)
 
   opened : (o : Option (List Item)) → ((is : List Item) → o ≡ SomeOf is → first_of (open_refusals c is) ≡ None → items (c.last_tid + 1) ≡ is) → Does (asked_for c o) (open_items c o).1
   unfolding open_items

@@ -6,7 +6,7 @@ use Rattle.model.specs.declared.condition.Condition.TheVariants.{Up, Down, Recov
 use Rattle.model.specs.Items.{Item}
 use Rattle.model.specs.Cells.{Cell}
 use Rattle.model.specs.Writes.{Stores}
-use Rattle.model.specs.Node.{Node, no_node, nothing_but, up_here, is_recovering}
+use Rattle.model.specs.Node.{Node, no_node, nothing_but, is_up, is_recovering}
 use Rattle.model.specs.Cluster.{Cluster, node_at}
 use Rattle.model.specs.Making.{making, is_well_made}
 use Rattle.model.specs.History.{Event, History, Faithful, plain}
@@ -19,7 +19,7 @@ use Rattle.model.proofs.bridge.Reached.{Reached, moment}
 use Rattle.model.proofs.bridge.Whole.{items_of, within_of, reached}
 use Rattle.model.proofs.bridge.LawsUnmade.{following_unmade}
 
-pub up_has_power : (d : Condition) → up_here d ≡ true → d ≡ Down → ⊥
+pub up_has_power : (d : Condition) → is_up d ≡ true → d ≡ Down → ⊥
 up_has_power Up h e = let z : ◌≡◌ {A = ℕ} 0 1 = cc in omega arith
 up_has_power Down h e = let z : ◌≡◌ {A = ℕ} 0 1 = cc in omega arith
 up_has_power Recovering h e = let z : ◌≡◌ {A = ℕ} 0 1 = cc in omega arith

@@ -9,7 +9,7 @@ use Rattle.model.specs.Items.{Item}
 use Rattle.model.specs.Lists.{place, stands, among}
 use Rattle.model.specs.Cells.{Cell, no_cell}
 use Rattle.model.specs.Ranges.{is_write, covers, put_item}
-use Rattle.model.specs.Journal.{Entry, Journal, tid_of, no_entry, entry_of, node_with_entries, with_outcome, pending, durably, made_durable, noted, flushed, is_forced, is_forced_full, forced_in}
+use Rattle.model.specs.Journal.{Entry, Journal, tid_of, no_entry, entry_of, with_entries, with_outcome, pending, durably, made_durable, noted, flushed, is_forced, is_forced_full, forced_in}
 use Rattle.model.specs.Writes.{Stores, Write, add_entry, force, note, put, flush_memory, flush_journal, point, drop_oldest, applied, applied_all}
 use Rattle.model.specs.Deeds.{touched_by, touched_by_all}
 use Rattle.model.proofs.core.Lists.{Some, Pairs, all_map, all_take}

@@ -2,7 +2,7 @@
 use Rattle.std.proofs.Common.{◌≡◌, cond, Some, vec_items, sym, ap, ◌∙◌}
 use Rattle.std.proofs.lemmas.Bool.{cond-true, cond-false}
 use Rattle.model.specs.Lists.{place_in}
-use Rattle.model.specs.Journal.{node_with_entries, with_outcome, entry_of, pending}
+use Rattle.model.specs.Journal.{with_entries, with_outcome, entry_of, pending}
 use Rattle.journal.specs.declared.entry.Entry.{Entry}
 use Rattle.journal.specs.Entries.{stored_entry}
 use Rattle.journal.specs.Tables.{table_log}
@@ -16,7 +16,7 @@ returns-in-default g c =
     in let log = table_log es (vec_items t.forced) t.pointer t.highest t.capacity
     in let none = noted_missing es c.args.tid (with_outcome (entry_of log c.args.tid) (Some (pending c.args.commits)))
     (c.in-default.ensures ∙ ap (place_in (λ (e : Entry). e.tid) c.args.tid) c.as-slice.ensures.value)
-    in record { answer = sym (cond-false _ _ _ none.0); log = ap (node_with_entries log) none.1 }
+    in record { answer = sym (cond-false _ _ _ none.0); log = ap (with_entries log) none.1 }
 
 pub returns : goal.returns
 returns g c =
@@ -27,4 +27,4 @@ returns g c =
     (c.in-Some.ensures ∙ ap (place_in (λ (e : Entry). e.tid) c.args.tid) c.as-slice.ensures.value)
     c.index-mut.ensures.value
     (ap (λ o. with_outcome (stored_entry c.index-mut.result.now) (Some o)) c.pending-outcome.ensures)
-    in record { answer = sym (cond-true _ _ _ there.0); log = ap (node_with_entries log) there.1 }
+    in record { answer = sym (cond-true _ _ _ there.0); log = ap (with_entries log) there.1 }
