@@ -1,5 +1,7 @@
 //! Says of each line of hexadecimal digits on standard input what record it is.
 
+#![tactic(auto)]
+
 mod again;
 mod describe;
 mod items;

@@ -1,5 +1,7 @@
 //! Journals: the redo logs of memory nodes, and the search by number that serves every table.
 
+#![tactic(auto)]
+
 pub mod bounds;
 pub mod entry;
 pub mod journal;

@@ -1,4 +1,6 @@
 //! Table journals on examples. There is nothing here but tests.
 
+#![tactic(auto)]
+
 #[cfg(test)]
 mod table;

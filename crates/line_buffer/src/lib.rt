@@ -1,5 +1,7 @@
 //! A buffer of written bytes over any memory, that writes back as late as it can.
 
+#![tactic(auto)]
+
 mod buffer;
 pub mod calls;
 mod line;

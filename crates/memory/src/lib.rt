@@ -1,6 +1,8 @@
 //! Memories: stores of bytes that say which of them survive a loss of power.
 //! Everything above relies on the contract of [`Memory`] alone.
 
+#![tactic(auto)]
+
 pub mod direct;
 pub mod range;
 pub mod shadow;

@@ -1,8 +1,8 @@
 -- The bounds of a cluster are kept by every call.
-use Rattle.std.proofs.Common.{◌≡◌, ℕ, zero, suc, ◌+◌, ◌-◌, ◌<◌, ◌≤◌, min, Bool, true, false, cond, not, ◌&&◌, ◌||◌, eqb, ltb, leb, ◌⊎◌, List, [], ◌∷◌, ◌++◌, map, length, take, drop, set, Some, None, Option, sym, refl, ap, ◌∙◌, subst, inl, inr, arith, length-append, length-drop, length-set, length-take}
+use Rattle.std.proofs.Common.{◌≡◌, ℕ, suc, ◌+◌, ◌<◌, ◌≤◌, Bool, true, false, cond, not, ◌&&◌, ltb, leb, List, [], ◌∷◌, ◌++◌, length, take, drop, set, Some, None, Option, refl, ◌∙◌, arith, length-append, length-drop, length-set, length-take}
 use lib.ListN.{length-map}
 use Rattle.std.specs.List.{remove}
-use Rattle.std.proofs.lemmas.Bool.{cond_both, cases_Bool, leb-true, leb-false, ltb-true, ltb-false, or_parts}
+use Rattle.std.proofs.lemmas.Bool.{cond_both, leb-true, leb-false, or_parts}
 use Rattle.model.specs.declared.condition.Condition.{Condition}
 use Rattle.model.specs.declared.condition.Condition.TheVariants.{Up, Down, Recovering}
 use Rattle.model.specs.declared.party.Party.{Party}
@@ -22,11 +22,11 @@ use Rattle.model.specs.Participants.{members, participants_of}
 use Rattle.model.specs.Journal.{has_entry, may_vote_yes, is_forced_full, oldest}
 use Rattle.model.specs.Writes.{Stores, fails}
 use Rattle.model.specs.Node.{Node, Left, cells_of, journal_of, powerless, is_in_doubt, doubt_of, is_unresolved, recovering as restarting}
-use Rattle.model.specs.Handling.{Effect, Reaction, lost, taken, carried_out, prepared_as, prepared, vote_on, finishing, inquired, replied, is_settled, queried, is_oldest, acknowledged, reacting_in, reaction, resuming, settling, collecting}
-use Rattle.model.specs.Cluster.{Cluster, Coordinator, Recovery, new_recovery, has_room, has_coordinator, has_recovery, node_at, with_node, with_network, sent, to_each, with_coordinators, with_recoveries, coordinator_of, coordinator_tid, new_coordinator, recovery_of, recovery_number, decision, reads_of, ruling}
+use Rattle.model.specs.Handling.{Effect, Reaction, lost, taken, carried_out, prepared_as, vote_on, finishing, inquired, replied, is_settled, queried, is_oldest, acknowledged, reacting_in, reaction, resuming, settling, collecting}
+use Rattle.model.specs.Cluster.{Cluster, Coordinator, Recovery, new_recovery, has_room, has_coordinator, has_recovery, node_at, with_node, sent, to_each, with_coordinators, with_recoveries, coordinator_of, coordinator_tid, new_coordinator, recovery_of, recovery_number, decision, reads_of, ruling}
 use Rattle.model.specs.Making.{making}
 use Rattle.model.specs.Calls.{Call, opens, delivers, loses, decides, leaves, recovers, rules, stops, cuts, wakes, inquires, resumes, settles, queries, collects, shows, Result, first_of, answered, carried, open_refusals, opening, open_items, prepare_to, place_refusals, message_at, without_message, reacted, delivered_to, delivering, coordinator_hears, recovery_hears, decide_refusals, deciding, finish_to, leave_refusals, without_coordinator, recover_refusals, recovering_of, inquiry_to, query_to, rule_refusals, ruling_of, stop_refusals, without_recovery, cut_refusals, wake_refusals, inquire_refusals, resume_refusals, settle_refusals, query_refusals, collect_refusals, show_refusals, performed, step}
-use Rattle.model.specs.History.{Event, History, following, plain}
+use Rattle.model.specs.History.{Event, following}
 use Rattle.model.specs.Bounds.{Bounded, EveryHistoryIsBounded}
 use Rattle.model.proofs.Telling.{none_holds, not-false}
 

@@ -1,10 +1,10 @@
 -- Counting: distinct numbers that all stand in a list are not more than its elements; so the table of minitransactions
 -- in doubt is never full before the journal.
-use Rattle.std.proofs.Common.{◌≡◌, ℕ, zero, suc, ◌<◌, ◌≤◌, Bool, true, false, cond, ◌||◌, eqb, leb, ◌⊎◌, List, [], ◌∷◌, length, sym, refl, ap, ◌∙◌, subst, inl, inr, arith}
+use Rattle.std.proofs.Common.{◌≡◌, ℕ, suc, ◌≤◌, Bool, true, false, cond, ◌||◌, eqb, leb, ◌⊎◌, List, [], ◌∷◌, length, sym, refl, ap, ◌∙◌, inl, inr, arith}
 use Rattle.std.specs.List.{AllByRecursion as All}
-use Rattle.std.proofs.lemmas.Bool.{cases_eq, cases_Bool, both_ways, eq-eqb, ne_eqb, lt-leb, leb-false, or_parts}
+use Rattle.std.proofs.lemmas.Bool.{cases_eq, eq-eqb, ne_eqb, lt-leb, leb-false, or_parts}
 use Rattle.model.specs.Numbers.{most_entries, last_number}
-use Rattle.model.specs.Journal.{Journal, is_full}
+use Rattle.model.specs.Journal.{is_full}
 use Rattle.model.specs.Node.{Node, journal_of}
 use Rattle.model.specs.Handling.{is_crowded}
 use Rattle.model.specs.Bounds.{JournalBounded}

@@ -1,10 +1,7 @@
 -- Small histories run by computing: a wrong rule gives another answer.
 use Rattle.std.proofs.Common.{◌≡◌, ℕ, zero, suc, Bool, true, false, List, [], ◌∷◌, ◌++◌, map, get_or, replicate, Some, None, Option, refl}
-use Rattle.model.specs.declared.refusal.Refusal.{Refusal}
 use Rattle.model.specs.declared.refusal.Refusal.TheVariants.{Malformed, Missing, WrongCondition, OutOfRange, NoRoom, NotReady, Exhausted}
-use Rattle.model.specs.declared.vote.Vote.{Vote}
 use Rattle.model.specs.declared.vote.Vote.TheVariants.{Yes, Busy, Forced, Mismatch, Full}
-use Rattle.model.specs.declared.party.Party.{Party}
 use Rattle.model.specs.declared.party.Party.TheVariants.{Node as NodeParty}
 use Rattle.model.specs.Items.{Item, compare, read, write}
 use Rattle.model.specs.Messages.{Message, voted}

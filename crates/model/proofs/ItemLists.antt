@@ -1,8 +1,8 @@
 -- Item lists taken apart at their first item.
-use Rattle.std.proofs.Common.{◌≡◌, ℕ, zero, suc, ◌+◌, ◌≤◌, Bool, true, false, cond, ◌&&◌, leb, List, [], ◌∷◌, ◌++◌, length, sym, refl, ap, ◌∙◌, arith, length-append}
+use Rattle.std.proofs.Common.{◌≡◌, ◌+◌, ◌≤◌, true, ◌&&◌, leb, List, [], ◌∷◌, ◌++◌, length, refl, ap, ◌∙◌, arith, length-append}
 use Rattle.std.proofs.lemmas.Bool.{and_parts, leb-true}
 use Rattle.model.specs.Items.{Item, compare, read, write}
-use Rattle.model.specs.ItemFormat.{encode_item, encode_items, is_item, are_items, span}
+use Rattle.model.specs.ItemFormat.{encode_item, encode_items, is_item, are_items}
 
 pub encode_none : encode_items [] ≡ []
 unfolding encode_items

@@ -1,7 +1,5 @@
 -- One step of reading an item list: what is left behind its first item.
 use Rattle.std.proofs.Common.{◌≡◌, ℕ, zero, suc, ◌-◌, ◌<◌, ◌≤◌, Bool, true, false, cond, eqb, List, [], ◌∷◌, length, is_some, Some, None, Option, sym, refl, ap, ◌∙◌, arith}
-use Rattle.std.proofs.lemmas.List.{nil_from_length}
-use Rattle.std.proofs.lemmas.Bool.{both_ways, eqb-true}
 use Rattle.std.specs.Option.{option_map}
 use Rattle.model.specs.Items.{Item}
 use Rattle.model.specs.ItemFormat.{decode_item, decode_items, take_items, then_items, then_take}

@@ -1,8 +1,7 @@
 -- The bounds of the stores are kept by every write and every restart.
-use Rattle.std.proofs.Common.{◌≡◌, ℕ, zero, suc, ◌+◌, ◌-◌, ◌<◌, ◌≤◌, min, Bool, true, false, cond, not, ◌&&◌, ◌||◌, eqb, ltb, leb, ◌⊎◌, List, [], ◌∷◌, ◌++◌, map, length, get_or, take, drop, set, Some, None, Option, sym, refl, ap, ◌∙◌, subst, inl, inr, arith, length-append, length-drop, length-set, length-take}
+use Rattle.std.proofs.Common.{◌≡◌, ℕ, zero, suc, ◌+◌, ◌≤◌, Bool, true, false, cond, ◌&&◌, ◌||◌, eqb, leb, List, [], ◌∷◌, ◌++◌, map, length, get_or, take, drop, set, Some, Option, sym, refl, ap, ◌∙◌, subst, arith, length-append, length-drop, length-set, length-take}
 use lib.ListN.{length-map}
-use Rattle.std.proofs.lemmas.Bool.{cond_both, both_ways, leb-true, leb-false, or_parts, and_parts, eqb-true, cases_lt}
-use Rattle.std.proofs.lemmas.List.{get_or_past}
+use Rattle.std.proofs.lemmas.Bool.{cond_both, leb-true, leb-false, or_parts, and_parts, eqb-true}
 use Rattle.model.specs.declared.condition.Condition.{Condition}
 use Rattle.model.specs.declared.condition.Condition.TheVariants.{Up, Down}
 use Rattle.model.specs.Numbers.{most_entries, most_forced, last_number, most_nodes}
@@ -10,17 +9,16 @@ use Rattle.model.specs.Items.{Item, compare, read, write}
 use Rattle.model.specs.Lists.{every, place}
 use Rattle.model.specs.Cells.{Cell, within, splice, written_at}
 use Rattle.model.specs.Ranges.{put_item}
-use Rattle.model.specs.Journal.{Entry, Journal, empty_journal, is_full, is_forced, is_forced_full, is_as_made, is_empty, next_entry, added, forced_in, noted, dropped, flushed, pointed, restarted, outcomes_left, with_entries, with_outcome, entry_of, tid_of, pending, made_durable}
+use Rattle.model.specs.Journal.{Entry, Journal, empty_journal, is_full, is_forced, is_forced_full, is_as_made, is_empty, next_entry, added, forced_in, restarted, outcomes_left, with_entries, with_outcome, entry_of, tid_of, pending, made_durable}
 use Rattle.model.specs.Writes.{Stores, Write, add_entry, force, note, put, flush_memory, flush_journal, point, drop_oldest, applied, applied_all}
-use Rattle.model.specs.Node.{Node, Left, none_left, cells_of, journal_of, no_node, nothing_but}
+use Rattle.model.specs.Node.{Left, cells_of, journal_of, no_node, nothing_but}
 use Rattle.model.specs.Cluster.{Cluster, node_at}
 use Rattle.model.specs.Making.{is_well_made, making}
-use Rattle.model.specs.Calls.{Call, step}
 use Rattle.model.specs.Deeds.{Deed, asked, wrote, woke, nothing, deed}
 use Rattle.model.specs.Bookkeeping.{stores_after}
-use Rattle.model.specs.History.{Event, History, Faithful, Fed, following, written_since, plain, LeftBy}
+use Rattle.model.specs.History.{Event, Fed, following, written_since, LeftBy}
 use Rattle.model.specs.Bounds.{JournalBounded, EveryJournalIsBounded, EveryMemoryKeepsItsSize}
-use Rattle.model.proofs.Telling.{deeds_tell, some_not_none}
+use Rattle.model.proofs.Telling.{deeds_tell}
 
 -- ## Journals
 

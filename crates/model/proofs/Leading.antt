@@ -1,18 +1,17 @@
 -- What is shown after a history is the plain cluster, and only bytes written since the last flush or restart are volatile:
 -- so such a history is faithful.
-use Rattle.std.proofs.Common.{◌≡◌, ℕ, Bool, true, false, cond, eqb, ◌⊎◌, List, [], ◌∷◌, sym, refl, ap, ◌∙◌, subst, inl, inr}
-use Rattle.std.proofs.lemmas.Bool.{cases_Bool, both_ways}
+use Rattle.std.proofs.Common.{◌≡◌, ℕ, Bool, true, false, cond, eqb, List, [], ◌∷◌, refl, ap, ◌∙◌, subst}
+use Rattle.std.proofs.lemmas.Bool.{both_ways}
 use Rattle.model.specs.Ranges.{covers}
 use Rattle.model.specs.Answers.{Answer}
 use Rattle.model.specs.Writes.{Stores, Write, add_entry, force, note, put, flush_memory, flush_journal, point, drop_oldest}
-use Rattle.model.specs.Node.{Node, Left}
-use Rattle.model.specs.Cluster.{Cluster, node_at}
-use Rattle.model.specs.Making.{making}
+use Rattle.model.specs.Node.{Left}
+use Rattle.model.specs.Cluster.{Cluster}
 use Rattle.model.specs.Calls.{Call, step}
 use Rattle.model.specs.Deeds.{Deed, asked, wrote, woke, nothing, deed, touched, touched_by, touched_by_all}
 use Rattle.model.specs.Laws.{EveryHistoryIsLawful}
 use Rattle.model.specs.Theorem.{Performs, Continues, Lawful}
-use Rattle.model.specs.History.{Event, History, Faithful, Fed, Answered, following, written_since, LeftBy, LeftOf, Shown, Spared, Leads, LeadsTo}
+use Rattle.model.specs.History.{Event, History, Faithful, Fed, Answered, following, written_since, LeftBy, Shown, LeadsTo}
 
 -- ## More bytes written before, more after
 

@@ -1,17 +1,14 @@
 -- What was written reads back: messages.
-use Rattle.std.proofs.Common.{◌≡◌, ℕ, suc, ◌+◌, ◌*◌, ◌/◌, ◌%◌, ◌<◌, ◌≤◌, Bool, true, false, cond, ◌&&◌, ◌||◌, eqb, ltb, leb, List, [], ◌∷◌, ◌++◌, length, get_or, drop, Some, None, Option, sym, refl, ap, ◌∙◌, ap₂, arith, length-append}
+use Rattle.std.proofs.Common.{◌≡◌, ℕ, ◌+◌, true, false, ◌&&◌, leb, ◌++◌, length, Some, refl, ◌∙◌, ap₂, arith}
 use Rattle.std.proofs.lemmas.Bool.Decides.{nat_tests}
-use Rattle.std.specs.Option.{option_map}
 use Rattle.model.specs.declared.party.Party.{Party}
 use Rattle.model.specs.declared.party.Party.TheVariants.{Node, Coordinator, Recovery}
 use Rattle.model.specs.declared.vote.Vote.{Vote}
 use Rattle.model.specs.declared.vote.Vote.TheVariants.{Yes, Busy, Forced, Mismatch, Full}
-use Rattle.model.specs.Items.{Item}
 use Rattle.model.specs.Votes.{vote_number, vote_of}
-use Rattle.model.specs.Messages.{Body, Message, prepare, voted, finish, inquiry, reply, query, settled}
-use Rattle.model.specs.ItemFormat.{be16, encode_list, decode_list, is_list}
-use Rattle.model.specs.Requests.{encode_record, is_record}
-use Rattle.model.specs.MessageFormat.{kind_of, party_kind, party_number, encode_body, encode_header, encode_message, is_body, decode_party, decode_body, decode_message, then_message, number_at, party_at, tid_at, sender_at, receiver_at, body_at, kind_at}
+use Rattle.model.specs.Messages.{Body, prepare, voted, finish, inquiry, reply, query, settled}
+use Rattle.model.specs.Requests.{is_record}
+use Rattle.model.specs.MessageFormat.{kind_of, party_kind, party_number, encode_body, encode_header, encode_message, is_body, decode_party, decode_body, decode_message, party_at, sender_at, receiver_at, body_at}
 use Rattle.model.specs.RoundTrips.{MessageReadsBack}
 use Rattle.model.proofs.ReadsBack.{joined16, list_back}
 

@@ -1,5 +1,5 @@
 -- What was read is written again with the same bytes: messages.
-use Rattle.std.proofs.Common.{◌≡◌, ℕ, suc, ◌+◌, ◌*◌, ◌/◌, ◌%◌, ◌<◌, ◌≤◌, Bool, true, false, cond, ◌&&◌, ◌||◌, eqb, ltb, leb, List, [], ◌∷◌, ◌++◌, length, get_or, drop, Some, None, Option, sym, refl, ap, ◌∙◌, subst, ap₂, arith, lit<}
+use Rattle.std.proofs.Common.{◌≡◌, ℕ, ◌+◌, ◌*◌, ◌/◌, ◌%◌, ◌<◌, Bool, true, false, cond, ◌&&◌, eqb, ltb, leb, List, [], ◌∷◌, length, get_or, drop, Some, None, Option, sym, refl, ap, ◌∙◌, subst, ap₂, arith, lit<}
 use Rattle.std.proofs.lemmas.List.{nil_from_length}
 use Rattle.std.proofs.lemmas.Bool.{and_parts, eqb-true, leb-true}
 use Rattle.std.proofs.lemmas.Bool.Decides.{nat_tests}
@@ -11,9 +11,9 @@ use Rattle.model.specs.declared.vote.Vote.TheVariants.{Yes, Busy, Forced, Mismat
 use Rattle.model.specs.Items.{Item}
 use Rattle.model.specs.Votes.{vote_number, vote_of}
 use Rattle.model.specs.Messages.{Body, Message, prepare, voted, finish, inquiry, reply, query, settled}
-use Rattle.model.specs.ItemFormat.{be16, encode_list, decode_list, is_list}
+use Rattle.model.specs.ItemFormat.{decode_list}
 use Rattle.model.specs.Requests.{encode_record, is_record}
-use Rattle.model.specs.MessageFormat.{kind_of, party_kind, party_number, encode_body, encode_header, encode_message, is_body, reads_limit, flag_byte, decode_party, decode_flag, decode_prepare, decode_voted, voted_with, then_vote, decode_empty, decode_body, decode_message, then_message, number_at, party_at, tid_at, sender_at, receiver_at, body_at, kind_at}
+use Rattle.model.specs.MessageFormat.{kind_of, party_kind, party_number, encode_body, encode_message, is_body, reads_limit, flag_byte, decode_party, decode_flag, decode_prepare, decode_voted, voted_with, then_vote, decode_empty, decode_body, decode_message, then_message, number_at, party_at, tid_at, sender_at, receiver_at, body_at, kind_at}
 use Rattle.model.specs.RoundTrips.{Bytes, MessageWritesAgain}
 use Rattle.model.proofs.WritesAgain.{rung, bytes_drop, high16, low16, CountedFrom, list_again, record_again}
 

@@ -1,5 +1,5 @@
 -- Each value has one record, and each record one value of its sort.
-use Rattle.std.proofs.Common.{◌≡◌, ℕ, true, List, Some, sym, ap, ◌∙◌}
+use Rattle.std.proofs.Common.{◌≡◌, true, List, Some, sym, ap, ◌∙◌}
 use Rattle.model.specs.Items.{Item}
 use Rattle.model.specs.ItemFormat.{is_list}
 use Rattle.model.specs.Requests.{encode_request, decode_request}

@@ -1,13 +1,12 @@
 -- A history in which a minitransaction is committed, applied and collected at both nodes.
-use Rattle.std.proofs.Common.{◌≡◌, ℕ, Bool, true, false, List, [], ◌∷◌, ◌++◌, refl, arith}
-use Rattle.model.specs.declared.vote.Vote.{Vote}
+use Rattle.std.proofs.Common.{List, [], ◌∷◌, ◌++◌, refl, arith}
 use Rattle.model.specs.declared.vote.Vote.TheVariants.{Yes}
-use Rattle.model.specs.Items.{Item, compare, read, write}
+use Rattle.model.specs.Items.{compare, read, write}
 use Rattle.model.specs.Calls.{Call, delivers, decides, settles, queries, collects}
 use Rattle.model.specs.Node.{none_left}
 use Rattle.model.specs.History.{History}
 use Rattle.model.specs.Samples.{two_stores, asks, history_of}
-use Rattle.model.specs.Progress.{Progress, SomeHistoryProgresses}
+use Rattle.model.specs.Progress.{SomeHistoryProgresses}
 use Rattle.model.proofs.Computing.{every_rule}
 use Rattle.model.proofs.Sampled.{sample_faithful}
 

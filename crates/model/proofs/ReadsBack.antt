@@ -1,18 +1,16 @@
 -- What was written reads back: items, lists of them and requests.
-use Rattle.std.proofs.Common.{◌≡◌, ℕ, zero, suc, ◌+◌, ◌*◌, ◌/◌, ◌%◌, ◌<◌, ◌≤◌, Bool, true, false, cond, ◌&&◌, ◌||◌, eqb, ltb, leb, List, [], ◌∷◌, ◌++◌, length, get_or, take, drop, IfOk, Some, None, Ok, Err, Option, Result, sym, refl, ap, ◌∙◌, ap₂, append-nil, arith, length-append}
+use Rattle.std.proofs.Common.{◌≡◌, ℕ, ◌+◌, ◌*◌, ◌/◌, ◌%◌, Bool, true, false, cond, ◌&&◌, ltb, leb, List, [], ◌∷◌, ◌++◌, length, take, drop, IfOk, Some, Ok, Err, Result, refl, ap, ◌∙◌, ap₂, arith, length-append}
 use Rattle.std.proofs.lemmas.List.{take_at, drop_at}
-use Rattle.std.proofs.lemmas.Bool.{and_parts, leb-true}
+use Rattle.std.proofs.lemmas.Bool.{and_parts}
 use Rattle.std.proofs.lemmas.Bool.Decides.{nat_tests}
 use Rattle.std.specs.Option.{option_map}
 use Rattle.model.specs.declared.refusal.Refusal.{Refusal}
 use Rattle.model.specs.declared.refusal.Refusal.TheVariants.{Malformed, NoRoom}
 use Rattle.model.specs.Items.{Item, compare, read, write}
 use Rattle.model.specs.Written.{written}
-use Rattle.model.specs.ItemFormat.{encode_item, encode_items, encode_list, is_item, are_items, is_list, decode_item, decode_fields, decode_items, decode_list, then_items}
+use Rattle.model.specs.ItemFormat.{encode_item, encode_items, encode_list, is_item, are_items, is_list, decode_item, decode_items, decode_list, then_items}
 use Rattle.model.specs.Requests.{encode_request, decode_request}
 use Rattle.model.specs.RoundTrips.{RequestReadsBack}
-use Rattle.model.proofs.ItemLists.{encode_none, encode_more, are_more}
-use Rattle.model.proofs.RequestLaws.{list_items, list_few, list_bound}
 
 pub joined16 : (n : ℕ) → n / 256 * 256 + n % 256 ≡ n
 joined16 n = omega arith

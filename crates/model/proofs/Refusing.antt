@@ -1,17 +1,17 @@
 -- A write that its store refuses alters nothing.
-use Rattle.std.proofs.Common.{◌≡◌, ℕ, zero, suc, ◌≤◌, Bool, true, false, cond, not, ◌&&◌, ◌||◌, eqb, ltb, leb, ◌⊎◌, List, [], ◌∷◌, ◌++◌, length, get_or, drop, set, Some, None, Option, sym, refl, ap, ◌∙◌, subst, inl, inr, arith}
-use Rattle.std.proofs.lemmas.Bool.{ltb-false, eqb-true, cases_Bool, both_ways}
+use Rattle.std.proofs.Common.{◌≡◌, ℕ, zero, suc, ◌≤◌, Bool, true, false, cond, not, ◌&&◌, ◌||◌, eqb, List, [], ◌∷◌, ◌++◌, length, drop, set, Some, None, Option, sym, refl, ap, ◌∙◌, arith}
+use Rattle.std.proofs.lemmas.Bool.{ltb-false, eqb-true, both_ways}
 use Rattle.model.specs.declared.refusal.Refusal.{Refusal}
 use Rattle.model.specs.declared.refusal.Refusal.TheVariants.{NoRoom, NotReady, OutOfRange}
 use Rattle.model.specs.Items.{Item, compare, read, write}
 use Rattle.model.specs.ItemFormat.{span}
 use Rattle.model.specs.Lists.{place}
-use Rattle.model.specs.Cells.{within, written_at}
+use Rattle.model.specs.Cells.{within}
 use Rattle.model.specs.Ranges.{is_write, address_of, put_item}
-use Rattle.model.specs.Journal.{Entry, Journal, tid_of, is_full, is_forced, is_forced_full, has_entry, is_empty, added, forced_in, noted, dropped, with_entries, with_outcome, entry_of, pending}
+use Rattle.model.specs.Journal.{Entry, Journal, tid_of, is_full, is_forced, is_forced_full, has_entry, is_empty, added, forced_in, noted, with_entries, with_outcome, entry_of, pending}
 use Rattle.model.specs.Writes.{Stores, Write, add_entry, force, note, put, flush_memory, flush_journal, point, drop_oldest, with_journal, with_cells, refusal_of, applied, applied_all, applied_until, then_applied, Accepted}
 use Rattle.model.specs.Bookkeeping.{WritesAreTotal}
-use Rattle.model.proofs.Telling.{some_not_none, not-false}
+use Rattle.model.proofs.Telling.{some_not_none}
 
 -- a refusal told by a test says what the test is
 told_true : (b : Bool) (x r : Refusal) → cond {A = Option Refusal} b (Some x) None ≡ Some r → b ≡ true

@@ -1,11 +1,10 @@
 -- The request as a whole: its form, its length, and what a writer of it answers.
-use Rattle.std.proofs.Common.{◌≡◌, ℕ, ◌+◌, ◌*◌, ◌<◌, ◌≤◌, Bool, true, false, cond, ◌&&◌, ltb, leb, List, [], ◌∷◌, ◌++◌, length, drop, Some, None, Ok, Err, Option, Result, sym, refl, ap, ◌∙◌, ap₂, arith}
-use native.Mathlib.Numerals.{unary_clauses}
+use Rattle.std.proofs.Common.{◌≡◌, ℕ, ◌+◌, ◌*◌, ◌<◌, ◌≤◌, Bool, true, false, cond, ◌&&◌, leb, List, [], ◌∷◌, ◌++◌, length, drop, Some, None, Ok, Err, Option, Result, sym, refl, ap, ◌∙◌, ap₂, arith}
 use Rattle.std.proofs.lemmas.Bool.{and_parts, leb-true, lt-ltb, le-ltb}
 use Rattle.model.specs.declared.refusal.Refusal.{Refusal}
 use Rattle.model.specs.declared.refusal.Refusal.TheVariants.{Malformed, NoRoom}
 use Rattle.model.specs.Items.{Item}
-use Rattle.model.specs.ItemFormat.{encode_item, encode_items, encode_list, is_item, are_items, is_list, list_size, decode_list}
+use Rattle.model.specs.ItemFormat.{encode_items, encode_list, is_item, are_items, is_list, list_size, decode_list}
 use Rattle.model.specs.Requests.{is_record, decode_request, encode_request}
 use Rattle.model.specs.Written.{written}
 use Rattle.model.proofs.ItemLists.{encode_none, encode_more_length, are_more, encode_bound}

@@ -1,5 +1,5 @@
 -- The histories that the sample cluster makes can be: their answers are the plain cluster's, and what was left is allowed.
-use Rattle.std.proofs.Common.{◌≡◌, ℕ, Bool, true, false, cond, ◌⊎◌, List, [], ◌∷◌, map, Some, None, Option, sym, refl, ap, subst, inl, inr}
+use Rattle.std.proofs.Common.{◌≡◌, ℕ, Bool, true, false, cond, List, [], ◌∷◌, map, Some, None, Option, refl, ap, subst, inl, inr}
 use Rattle.model.specs.declared.outcome.Outcome.{Outcome}
 use Rattle.model.specs.declared.party.Party.{Party}
 use Rattle.model.specs.declared.party.Party.TheVariants.{Node as NodeParty, Coordinator as CoordinatorParty, Recovery as RecoveryParty}
@@ -14,8 +14,8 @@ use Rattle.model.specs.Handling.{Reaction, lost, taken, reaction, resuming, sett
 use Rattle.model.specs.Cluster.{Cluster, node_at}
 use Rattle.model.specs.Making.{making}
 use Rattle.model.specs.Calls.{Call, opens, delivers, loses, decides, leaves, recovers, rules, stops, cuts, wakes, inquires, resumes, settles, queries, collects, shows, step, first_of, open_refusals, place_refusals, wake_refusals, resume_refusals, settle_refusals, collect_refusals, message_at, without_message}
-use Rattle.model.specs.Deeds.{Deed, asked, wrote, woke, nothing, unless, asked_for, reacted_with, received_by, deed_of, deed, wrote_by}
-use Rattle.model.specs.History.{Event, History, Faithful, Fed, Answered, following, written_since, LeftBy, LeftOf, OutcomeLeft, OutcomesLeft}
+use Rattle.model.specs.Deeds.{Deed, asked, woke, nothing, unless, asked_for, reacted_with, received_by, deed_of, deed, wrote_by}
+use Rattle.model.specs.History.{Event, Faithful, Fed, Answered, following, written_since, LeftBy, LeftOf, OutcomeLeft, OutcomesLeft}
 use Rattle.model.specs.Samples.{left_by, left_of, durable_outcome, events_of, history_of}
 
 outcome_left : (o : Option Outcome) → OutcomeLeft o (durable_outcome o)

@@ -1,11 +1,9 @@
 -- What the past keeps of a call is all that the call did to what lasts.
-use Rattle.std.proofs.Common.{◌≡◌, ℕ, ◌+◌, ◌<◌, Bool, true, false, cond, not, eqb, ltb, ◌⊎◌, List, [], ◌∷◌, length, get_or, set, Some, None, Option, sym, refl, ap, ◌∙◌, subst, inl, inr, ⊎_elim}
+use Rattle.std.proofs.Common.{◌≡◌, ℕ, Bool, true, false, cond, not, ◌⊎◌, List, [], ◌∷◌, length, Some, None, Option, sym, refl, ap, ◌∙◌, subst, inl, inr}
 use lib.ListN.{get_or-eq_default}
 use Rattle.std.proofs.lemmas.List.{get_or-set_same, get_or-set_other}
-use Rattle.std.proofs.lemmas.Bool.{cond_both, cases_eq, cases_Bool, both_ways, eq-eqb, ne_eqb, eqb-true, ltb-true, ltb-false}
+use Rattle.std.proofs.lemmas.Bool.{cond_both, cases_eq, cases_Bool, eq-eqb, ne_eqb, ltb-true, ltb-false}
 use Rattle.std.specs.List.{AllByRecursion as All}
-use Rattle.model.specs.declared.condition.Condition.{Condition}
-use Rattle.model.specs.declared.condition.Condition.TheVariants.{Up, Down, Recovering}
 use Rattle.model.specs.declared.party.Party.{Party}
 use Rattle.model.specs.declared.party.Party.TheVariants.{Node as NodeParty, Coordinator as CoordinatorParty, Recovery as RecoveryParty}
 use Rattle.model.specs.declared.refusal.Refusal.{Refusal}
@@ -22,7 +20,7 @@ use Rattle.model.specs.Handling.{Effect, Reaction, lost, taken, carried_out, rea
 use Rattle.model.specs.Cluster.{Cluster, has_coordinator, has_recovery, has_node, node_at, with_node, sent}
 use Rattle.model.specs.Calls.{Call, opens, delivers, loses, decides, leaves, recovers, rules, stops, cuts, wakes, inquires, resumes, settles, queries, collects, shows, Result, first_of, answered, carried, open_refusals, opening, open_items, place_refusals, message_at, without_message, reacted, delivered_to, delivering, decide_refusals, deciding, leave_refusals, without_coordinator, recover_refusals, recovering_of, inquiry_to, query_to, rule_refusals, ruling_of, stop_refusals, without_recovery, cut_refusals, wake_refusals, inquire_refusals, resume_refusals, settle_refusals, query_refusals, collect_refusals, show_refusals, performed, step}
 use Rattle.model.specs.Deeds.{Deed, asked, wrote, woke, nothing, unless, asked_for, wrote_by, reacted_with, received_by, deed_of, deed}
-use Rattle.model.specs.Bookkeeping.{stores_after, tid_after, DeedTells, DeedsTellAll}
+use Rattle.model.specs.Bookkeeping.{stores_after, tid_after, DeedsTellAll}
 
 -- ## Nodes changed at one place
 

@@ -1,5 +1,5 @@
 -- That what the past keeps of a call is all that the call did to what lasts, and that a refused write does nothing.
-use Rattle.std.specs.Prelude.{◌≡◌, ℕ, ◌+◌, cond, List, Some, None, Option, ◌==◌}
+use Rattle.std.specs.Prelude.{◌≡◌, ℕ, ◌+◌, cond, List, Some, None, ◌==◌}
 use Rattle.model.specs.declared.refusal.Refusal.{Refusal}
 use Rattle.model.specs.Writes.{Stores, Write, refusal_of, applied, applied_all, applied_until, Accepted}
 use Rattle.model.specs.Journal.{restarted}

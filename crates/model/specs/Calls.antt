@@ -1,7 +1,6 @@
 -- The sixteen calls: for each its refusals in the order in which they are tried, what it does, and its answer.
-use Rattle.std.specs.Prelude.{ℕ, ◌+◌, Bool, true, false, cond, not, ◌&&◌, ◌||◌, List, [], ◌∷◌, ◌++◌, map, length, set, is_some, Some, None, Option, ◌==◌, nat_le, nat_lt, slice_index_or, slice_set}
+use Rattle.std.specs.Prelude.{ℕ, ◌+◌, Bool, true, false, cond, not, ◌&&◌, ◌||◌, List, [], ◌∷◌, ◌++◌, length, set, Some, None, Option, ◌==◌, nat_le, nat_lt, slice_index_or, slice_set}
 use Rattle.std.specs.List.{remove}
-use Rattle.model.specs.declared.condition.Condition.{Condition}
 use Rattle.model.specs.declared.party.Party.{Party}
 use Rattle.model.specs.declared.party.Party.TheVariants.{Node as NodeParty, Coordinator as CoordinatorParty, Recovery as RecoveryParty}
 use Rattle.model.specs.declared.refusal.Refusal.{Refusal}
@@ -16,7 +15,7 @@ use Rattle.model.specs.Lists.{place, some}
 use Rattle.model.specs.Cells.{within, read_at}
 use Rattle.model.specs.Ranges.{node_of, address_of, items_at}
 use Rattle.model.specs.Participants.{includes, members, every_member, participants_of}
-use Rattle.model.specs.Journal.{Journal, is_empty, oldest, past, says}
+use Rattle.model.specs.Journal.{is_empty, oldest, past, says}
 use Rattle.model.specs.Writes.{fails}
 use Rattle.model.specs.Node.{Node, Left, none_left, cells_of, journal_of, is_up, is_down, is_recovering, powerless, is_in_doubt, doubt_of, is_unresolved, unresolved_of, some_unresolved, recovering as restarting}
 use Rattle.model.specs.Handling.{Effect, Reaction, lost, taken, carried_out, reaction, resuming, settling, collecting}

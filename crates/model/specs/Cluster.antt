@@ -1,13 +1,12 @@
 -- The whole cluster: its nodes, the messages under way, its coordinators and recoveries, and the numbers given so far.
-use Rattle.std.specs.Prelude.{ℕ, ◌+◌, Bool, true, false, cond, not, ◌&&◌, ◌||◌, List, [], ◌∷◌, ◌++◌, map, length, get_or, replicate, is_some, Some, None, Option, nat_le, nat_lt, slice_index_or, slice_set}
+use Rattle.std.specs.Prelude.{ℕ, ◌+◌, Bool, true, false, cond, List, [], ◌++◌, map, length, get_or, replicate, is_some, Some, None, Option, nat_le, nat_lt, slice_index_or, slice_set}
 use Rattle.std.specs.Option.{unwrap_or}
-use Rattle.model.specs.declared.party.Party.{Party}
-use Rattle.model.specs.declared.party.Party.TheVariants.{Node as NodeParty, Coordinator as CoordinatorParty, Recovery as RecoveryParty}
+use Rattle.model.specs.declared.party.Party.TheVariants.{Coordinator as CoordinatorParty}
 use Rattle.model.specs.declared.vote.Vote.{Vote}
 use Rattle.model.specs.declared.vote.Vote.TheVariants.{Yes, Busy, Forced, Mismatch, Full}
 use Rattle.model.specs.Numbers.{most_nodes, most_messages}
-use Rattle.model.specs.Messages.{Body, Message, settled}
-use Rattle.model.specs.Lists.{place, stands, every, joined_by}
+use Rattle.model.specs.Messages.{Message, settled}
+use Rattle.model.specs.Lists.{place, stands, joined_by}
 use Rattle.model.specs.Participants.{members, every_member}
 use Rattle.model.specs.Node.{Node, no_node}
 

@@ -6,7 +6,7 @@ use Rattle.model.specs.declared.refusal.Refusal.{Refusal}
 use Rattle.model.specs.Items.{Item}
 use Rattle.model.specs.Requests.{decode_request}
 use Rattle.model.specs.Messages.{Message}
-use Rattle.model.specs.Ranges.{is_write, covers}
+use Rattle.model.specs.Ranges.{covers}
 use Rattle.model.specs.Writes.{Write, add_entry, force, note, put, flush_memory, flush_journal, point, drop_oldest, budgeted}
 use Rattle.model.specs.Handling.{Effect, Reaction, lost, taken, reaction, resuming, settling, collecting}
 use Rattle.model.specs.Cluster.{Cluster, node_at}

@@ -1,11 +1,9 @@
 -- Eight cases on two nodes of 64 zero bytes with journals of capacity 4: each stands at the edge of a rule.
-use Rattle.std.specs.Prelude.{◌≡◌, ℕ, zero, suc, Bool, true, false, List, [], ◌∷◌, ◌++◌, replicate}
-use Rattle.model.specs.declared.refusal.Refusal.{Refusal}
+use Rattle.std.specs.Prelude.{◌≡◌, ℕ, zero, suc, true, false, List, [], ◌∷◌, ◌++◌, replicate}
 use Rattle.model.specs.declared.refusal.Refusal.TheVariants.{Malformed, Missing, OutOfRange}
-use Rattle.model.specs.declared.vote.Vote.{Vote}
 use Rattle.model.specs.declared.vote.Vote.TheVariants.{Yes, Busy, Forced, Mismatch, Full}
 use Rattle.model.specs.Items.{Item, compare, read, write}
-use Rattle.model.specs.Answers.{Answer, done, opened, delivered, decided, recovering, refused}
+use Rattle.model.specs.Answers.{done, opened, delivered, decided, recovering, refused}
 use Rattle.model.specs.Calls.{Call, opens, delivers, loses, decides, recovers, stops, collects}
 use Rattle.model.specs.Samples.{two_nodes, asks, after, answers}
 

@@ -1,6 +1,6 @@
 -- What a node does with a message, in each condition, and what it does when it resumes, checkpoints and collects:
 -- the durable writes in order, then the volatile change and the message to send.
-use Rattle.std.specs.Prelude.{ℕ, ◌-◌, Bool, true, false, cond, not, ◌&&◌, ◌||◌, List, [], ◌∷◌, ◌++◌, map, length, set, is_some, Some, None, Option, ◌==◌, nat_le, slice_index_or, slice_set}
+use Rattle.std.specs.Prelude.{ℕ, ◌-◌, Bool, true, false, cond, not, ◌&&◌, ◌||◌, List, [], ◌∷◌, ◌++◌, map, length, set, Some, None, Option, ◌==◌, nat_le, slice_index_or, slice_set}
 use Rattle.std.specs.List.{remove}
 use Rattle.std.specs.Option.{unwrap_or}
 use Rattle.model.specs.declared.condition.Condition.{Condition}

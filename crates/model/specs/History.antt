@@ -5,7 +5,7 @@ use Rattle.model.specs.declared.outcome.Outcome.{Outcome}
 use Rattle.model.specs.declared.vote.Vote.{Vote}
 use Rattle.model.specs.Answers.{Answer, decided}
 use Rattle.model.specs.Items.{Item}
-use Rattle.model.specs.Cells.{Cell, no_cell}
+use Rattle.model.specs.Cells.{no_cell}
 use Rattle.model.specs.Journal.{Entry}
 use Rattle.model.specs.Writes.{Stores}
 use Rattle.model.specs.Node.{Node, Left, cells_of, journal_of}

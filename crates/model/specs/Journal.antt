@@ -1,11 +1,11 @@
 -- The journal of a node: its yes entries with their outcomes, its forced aborts and its checkpoint pointer,
 -- and what each edit makes of it.
-use Rattle.std.specs.Prelude.{ℕ, ◌+◌, Bool, true, false, cond, not, ◌&&◌, ◌||◌, List, [], ◌∷◌, ◌++◌, map, length, drop, is_some, Some, None, Option, ◌==◌, nat_le, nat_lt, slice_index_or, slice_set}
+use Rattle.std.specs.Prelude.{ℕ, ◌+◌, Bool, true, false, cond, not, ◌&&◌, ◌||◌, List, [], ◌∷◌, ◌++◌, map, length, drop, Some, None, Option, ◌==◌, nat_le, nat_lt, slice_index_or, slice_set}
 use Rattle.std.specs.Option.{option_map}
 use Rattle.model.specs.declared.outcome.Outcome.{Outcome}
 use Rattle.model.specs.Numbers.{most_forced, most_entries, last_number}
 use Rattle.model.specs.Items.{Item}
-use Rattle.model.specs.Lists.{place, stands, among, some}
+use Rattle.model.specs.Lists.{place, stands, among}
 
 -- a yes vote with what it promised: to write these items if the minitransaction is committed
 pub record Entry : Type 0 where

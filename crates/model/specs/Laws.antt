@@ -4,14 +4,14 @@
 -- it, `ago k h` the history as it was k calls ago. The serial run takes the committed minitransactions, those for which
 -- each participant has at some time written its yes entry, one by one in the order of their last yes entries, on the
 -- memories as made: each compares, reads by node and item, then writes in item order.
-use Rattle.std.specs.Prelude.{◌≡◌, ℕ, ◌+◌, ◌<◌, ◌≤◌, Bool, true, false, List, Some, None, Option}
+use Rattle.std.specs.Prelude.{◌≡◌, ℕ, ◌+◌, ◌<◌, ◌≤◌, Bool, true, false, List, Some}
 use Rattle.std.specs.List.{slice_get}
 use Rattle.model.specs.declared.outcome.Outcome.{Outcome}
-use Rattle.model.specs.Answers.{Answer, shown}
+use Rattle.model.specs.Answers.{shown}
 use Rattle.model.specs.Cells.{read_at}
 use Rattle.model.specs.Journal.{Entry}
 use Rattle.model.specs.Node.{journal_of, none_left, written_in_doubt}
-use Rattle.model.specs.Cluster.{Cluster, node_at}
+use Rattle.model.specs.Cluster.{node_at}
 use Rattle.model.specs.Calls.{shows, step}
 use Rattle.model.specs.Deeds.{Yes}
 use Rattle.model.specs.History.{History, Faithful, DecidedIn, plain, ago}

@@ -1,12 +1,11 @@
 -- Making a cluster of a group of nodes.
 use Rattle.std.specs.Prelude.{Bool, cond, ◌&&◌, List, [], map, length, nat_le}
-use Rattle.model.specs.declared.condition.Condition.{Condition}
 use Rattle.model.specs.declared.condition.Condition.TheVariants.{Up, Down}
 use Rattle.model.specs.Numbers.{most_nodes}
 use Rattle.model.specs.Lists.{every}
 use Rattle.model.specs.Journal.{is_as_made}
 use Rattle.model.specs.Writes.{Stores}
-use Rattle.model.specs.Node.{Node, nothing_but}
+use Rattle.model.specs.Node.{nothing_but}
 use Rattle.model.specs.Cluster.{Cluster}
 
 -- a group of at most four nodes, each with its journal as made

@@ -1,12 +1,11 @@
 -- The bytes of messages, written and read.
-use Rattle.std.specs.Prelude.{ℕ, ◌+◌, ◌*◌, Bool, true, false, cond, ◌&&◌, ◌||◌, List, [], ◌∷◌, ◌++◌, length, drop, Some, None, Option, ◌==◌, nat_le, nat_lt, slice_index}
+use Rattle.std.specs.Prelude.{ℕ, ◌+◌, ◌*◌, Bool, true, false, cond, ◌&&◌, List, [], ◌∷◌, ◌++◌, length, drop, Some, None, Option, ◌==◌, nat_le, nat_lt, slice_index}
 use Rattle.std.specs.Option.{option_map}
 use Rattle.model.specs.declared.party.Party.{Party}
 use Rattle.model.specs.declared.party.Party.TheVariants.{Node, Coordinator, Recovery}
 use Rattle.model.specs.declared.vote.Vote.{Vote}
 use Rattle.model.specs.Numbers.{most_reads}
 use Rattle.model.specs.Votes.{vote_number, vote_of}
-use Rattle.model.specs.Items.{Item}
 use Rattle.model.specs.Messages.{Body, Message, prepare, voted, finish, inquiry, reply, query, settled}
 use Rattle.model.specs.ItemFormat.{be16, encode_list, decode_list, is_list}
 use Rattle.model.specs.Requests.{encode_record, is_record}

@@ -1,5 +1,5 @@
 -- A memory node: what lasts, its stores, and what is gone with the power.
-use Rattle.std.specs.Prelude.{ℕ, Bool, true, false, cond, not, ◌&&◌, ◌||◌, List, [], ◌∷◌, map, length, replicate, is_some, Some, None, Option, slice_index_or}
+use Rattle.std.specs.Prelude.{ℕ, Bool, true, false, cond, not, ◌&&◌, List, [], map, replicate, is_some, Some, None, Option, slice_index_or}
 use Rattle.model.specs.declared.condition.Condition.{Condition}
 use Rattle.model.specs.declared.condition.Condition.TheVariants.{Up, Down, Recovering}
 use Rattle.model.specs.Numbers.{most_nodes}

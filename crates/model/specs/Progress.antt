@@ -1,15 +1,13 @@
 -- That nothing in the laws is empty: there is a history in which every vote is yes, the decision is yes,
 -- the bytes that a node shows change, and the entries are collected.
-use Rattle.std.specs.Prelude.{◌≡◌, ℕ, Bool, true, false, List, [], ◌∷◌, Some, None, Option}
-use Rattle.std.specs.List.{slice_get}
-use Rattle.model.specs.declared.vote.Vote.{Vote}
+use Rattle.std.specs.Prelude.{◌≡◌, ℕ, true, List, [], ◌∷◌, Some}
 use Rattle.model.specs.declared.vote.Vote.TheVariants.{Yes}
-use Rattle.model.specs.Journal.{Journal, Entry}
+use Rattle.model.specs.Journal.{Entry}
 use Rattle.model.specs.Node.{journal_of}
 use Rattle.model.specs.Cluster.{node_at}
 use Rattle.model.specs.Cells.{read_at}
 use Rattle.model.specs.History.{History, Faithful, DecidedIn, plain, ago}
-use Rattle.model.specs.SerialRun.{Turn, serial_turn, serial_memories, memory_at}
+use Rattle.model.specs.SerialRun.{serial_turn, serial_memories, memory_at}
 use Rattle.model.specs.Laws.{ShownAt, FinishedAt}
 
 -- the entries that stand at a node

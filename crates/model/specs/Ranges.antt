@@ -1,5 +1,5 @@
 -- What items name and what they do to a memory: the bytes they share, comparing, reading, writing.
-use Rattle.std.specs.Prelude.{ℕ, ◌+◌, Bool, true, false, ◌&&◌, ◌||◌, List, [], ◌∷◌, ◌++◌, nat_eq, nat_le, nat_lt}
+use Rattle.std.specs.Prelude.{ℕ, ◌+◌, Bool, true, false, ◌&&◌, ◌||◌, List, [], ◌∷◌, nat_eq, nat_le, nat_lt}
 use Rattle.model.specs.Items.{Item, compare, read, write}
 use Rattle.model.specs.ItemFormat.{span}
 use Rattle.model.specs.Lists.{some, every, only, joined_by}

@@ -1,5 +1,5 @@
 -- Records, and the request: the record of the item list that opens a minitransaction.
-use Rattle.std.specs.Prelude.{ℕ, ◌+◌, ◌*◌, Bool, cond, not, ◌&&◌, ◌||◌, List, [], ◌∷◌, ◌++◌, length, drop, Some, None, Option, ◌==◌, nat_le, slice_index}
+use Rattle.std.specs.Prelude.{ℕ, ◌+◌, ◌*◌, Bool, cond, ◌&&◌, List, ◌∷◌, ◌++◌, length, drop, None, Option, ◌==◌, nat_le, slice_index}
 use Rattle.model.specs.Items.{Item}
 use Rattle.model.specs.ItemFormat.{be16, encode_list, decode_list}
 

@@ -1,5 +1,5 @@
 -- A sample cluster to compute with: nodes of 64 zero bytes and journals of capacity 4, and what it answers to lists of calls.
-use Rattle.std.specs.Prelude.{ℕ, Bool, cond, List, [], ◌∷◌, map, replicate, Some, None, Option}
+use Rattle.std.specs.Prelude.{Bool, cond, List, [], ◌∷◌, map, replicate, Some, None, Option}
 use Rattle.model.specs.declared.outcome.Outcome.{Outcome}
 use Rattle.model.specs.Items.{Item}
 use Rattle.model.specs.Requests.{encode_request}

@@ -1,5 +1,5 @@
 -- What holds of a running cluster, whatever its history: the promises that a public call makes.
-use Rattle.std.specs.Prelude.{◌≡◌, ℕ, Bool, false, List, [], ◌∷◌, map, Option}
+use Rattle.std.specs.Prelude.{◌≡◌, List, [], ◌∷◌, map}
 use Rattle.std.specs.Option.{option_map}
 use Rattle.model.specs.declared.outcome.Outcome.{Outcome}
 use Rattle.model.specs.Answers.{Answer}
@@ -7,10 +7,8 @@ use Rattle.model.specs.Journal.{Entry}
 use Rattle.model.specs.Writes.{Stores}
 use Rattle.model.specs.Node.{Node, Left, cells_of, journal_of}
 use Rattle.model.specs.Cluster.{Cluster, node_at}
-use Rattle.model.specs.Making.{making}
-use Rattle.model.specs.Calls.{Call, left_at, step}
-use Rattle.model.specs.Deeds.{deed}
-use Rattle.model.specs.History.{Event, History, Faithful, Shown, LeftBy, Spared, Leads, LeadsTo, plain}
+use Rattle.model.specs.Calls.{Call, left_at}
+use Rattle.model.specs.History.{Event, History, Faithful, Shown, Leads, LeadsTo, plain}
 use Rattle.model.specs.Laws.{Laws}
 
 -- ## A call, by what is shown before and after it

@@ -1,5 +1,7 @@
 //! Memory nodes: the participant's side of every minitransaction, over any memory and any journal.
 
+#![tactic(auto)]
+
 pub mod access;
 pub mod budget;
 pub mod doubts;

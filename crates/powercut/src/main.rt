@@ -1,5 +1,7 @@
 //! Cuts the power on each memory and says in plain words what survived.
 
+#![tactic(auto)]
+
 mod trial;
 
 use line_buffer::LineBuffer;

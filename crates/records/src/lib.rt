@@ -1,5 +1,7 @@
 //! Records of items: reading, walking and writing them.
 
+#![tactic(auto)]
+
 pub mod item;
 pub mod item_set;
 pub mod items;

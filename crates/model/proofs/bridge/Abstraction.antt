@@ -1,8 +1,8 @@
 -- The plain cluster seen as a state of the core. What it does not hold is given beside it: the past, and which bytes
 -- were written since the last flush or restart.
-use Rattle.std.proofs.Common.{◌≡◌, ℕ, zero, suc, ◌+◌, ◌-◌, ◌<◌, ◌≤◌, Bool, true, false, cond, not, ◌&&◌, ◌||◌, eqb, ltb, leb, ◌⊎◌, List, [], ◌∷◌, ◌++◌, map, length, get_or, set, Some as SomeOf, None, Option, sym, refl, ap, ◌∙◌, subst, ap₂, inl, inr, ⊎_elim, arith}
+use Rattle.std.proofs.Common.{◌≡◌, ℕ, zero, suc, ◌+◌, ◌<◌, Bool, ◌⊎◌, List, [], ◌∷◌, ◌++◌, map, length, get_or, set, Some as SomeOf, None, Option, refl, ap, inl, inr, ⊎_elim, arith}
 use mathlib.Core.Path.{fun_ext}
-use Rattle.std.specs.List.{remove, AllByRecursion as All}
+use Rattle.std.specs.List.{remove}
 use Rattle.std.proofs.lemmas.Bool.{cases_eq, cases_lt}
 use Rattle.std.proofs.lemmas.List.{get_or-set_same, get_or-set_other, get_or_past, map-append}
 use Rattle.model.specs.declared.condition.Condition.{Condition}
@@ -10,12 +10,11 @@ use Rattle.model.specs.declared.condition.Condition.TheVariants.{Up, Down, Recov
 use Rattle.model.specs.declared.outcome.Outcome.{Outcome}
 use Rattle.model.specs.declared.party.Party.{Party}
 use Rattle.model.specs.declared.party.Party.TheVariants.{Node as NodeParty, Coordinator as CoordinatorParty, Recovery as RecoveryParty}
-use Rattle.model.specs.declared.vote.Vote.{Vote}
-use Rattle.model.specs.Cells.{Cell, no_cell}
+use Rattle.model.specs.Cells.{Cell}
 use Rattle.model.specs.Messages.{Body, Message, prepare, voted, finish, inquiry, reply, query, settled}
-use Rattle.model.specs.Journal.{Entry, Journal, is_forced}
+use Rattle.model.specs.Journal.{Entry, is_forced}
 use Rattle.model.specs.Writes.{Stores}
-use Rattle.model.specs.Node.{Node, Volatile, cells_of, journal_of, no_node}
+use Rattle.model.specs.Node.{Node, no_node}
 use Rattle.model.specs.Cluster.{Cluster, node_at, with_node, with_network, is_yes}
 use Rattle.model.proofs.core.Lists.{At, without, update, update_same, update_other}
 use Rattle.model.proofs.core.State as core

@@ -1,27 +1,25 @@
 -- A recovering node takes a reply; a node answers an inquiry, with a forced abort where no entry stands.
-use Rattle.std.proofs.Common.{◌≡◌, ℕ, zero, suc, ◌+◌, ◌-◌, ◌<◌, ◌≤◌, Bool, true, false, cond, not, ◌&&◌, ◌||◌, eqb, ltb, leb, ◌⊎◌, List, [], ◌∷◌, ◌++◌, map, length, get_or, take, set, is_some, Some as SomeOf, None, Option, sym, refl, ap, ◌∙◌, subst, ap₂, inl, inr, ⊎_elim, arith}
+use Rattle.std.proofs.Common.{◌≡◌, ℕ, zero, suc, ◌<◌, Bool, true, false, cond, not, ◌||◌, eqb, ◌⊎◌, List, [], ◌∷◌, ◌++◌, map, length, get_or, take, set, Some as SomeOf, None, Option, sym, refl, ap, ◌∙◌, subst, inl, inr, ⊎_elim, arith}
 use mathlib.Core.Path.{fun_ext}
-use Rattle.std.specs.List.{AllByRecursion as All}
-use Rattle.std.proofs.lemmas.Bool.{cases_eq, cases_Bool, both_ways, and_parts, or_cases, or_parts, or_from, or_left, or_right, not-true, not-false, eqb-true, eq-eqb, ne_eqb, cond_both}
+use Rattle.std.proofs.lemmas.Bool.{cases_eq, both_ways, and_parts, or_cases, or_from, or_left, or_right, not-true, not-false, eqb-true, eq-eqb, ne_eqb, cond_both}
 use Rattle.std.proofs.lemmas.List.{get_or-set_same, get_or-set_other}
-use Rattle.model.specs.declared.condition.Condition.{Condition}
-use Rattle.model.specs.declared.condition.Condition.TheVariants.{Up, Down, Recovering}
+use Rattle.model.specs.declared.condition.Condition.TheVariants.{Up}
 use Rattle.model.specs.declared.party.Party.{Party}
-use Rattle.model.specs.declared.party.Party.TheVariants.{Node as NodeParty, Coordinator as CoordinatorParty, Recovery as RecoveryParty}
+use Rattle.model.specs.declared.party.Party.TheVariants.{Node as NodeParty}
 use Rattle.model.specs.Items.{Item}
 use Rattle.model.specs.Cells.{Cell}
-use Rattle.model.specs.Lists.{place, stands, among, every}
+use Rattle.model.specs.Lists.{place, stands, among}
 use Rattle.model.specs.Participants.{members, participants_of, every_member}
-use Rattle.model.specs.Messages.{Body, Message, inquiry, reply}
+use Rattle.model.specs.Messages.{reply}
 use Rattle.model.specs.Answers.{Answer, delivered}
-use Rattle.model.specs.Journal.{Entry, Journal, tid_of, has_entry, is_forced, may_vote_yes, is_forced_full, forced_in}
-use Rattle.model.specs.Writes.{Stores, Write, force, applied, applied_all}
-use Rattle.model.specs.Node.{Node, no_node, Unresolved, Volatile, journal_of, cells_of, is_unresolved, unresolved_of, unresolved_tid, no_unresolved, powerless}
+use Rattle.model.specs.Journal.{Entry, Journal, tid_of, has_entry, is_forced, may_vote_yes, is_forced_full}
+use Rattle.model.specs.Writes.{Stores, force, applied_all}
+use Rattle.model.specs.Node.{Node, no_node, Unresolved, journal_of, cells_of, is_unresolved, unresolved_of, unresolved_tid, no_unresolved, powerless}
 use Rattle.model.specs.Cluster.{Cluster, node_at, with_node, sent}
-use Rattle.model.specs.Handling.{Effect, Reaction, lost, taken, without_effect, sending, from, replied, heard, agreed_by, resolved_as, with_unresolved, inquired}
+use Rattle.model.specs.Handling.{Effect, Reaction, from, replied, heard, agreed_by, resolved_as, with_unresolved, inquired}
 use Rattle.model.specs.Calls.{carried, reacted}
-use Rattle.model.specs.Deeds.{Deed, nothing, wrote, wrote_by, reacted_with, touched, touched_by_all, yes_after, yes_by_all}
-use Rattle.model.proofs.core.Lists.{Some, has, all_map, all_append, all_some, some_left, some_map, some_push, every_has}
+use Rattle.model.specs.Deeds.{wrote, wrote_by, reacted_with, touched, touched_by_all, yes_after, yes_by_all}
+use Rattle.model.proofs.core.Lists.{Some, all_map, all_append, some_left, some_map, some_push, every_has}
 use Rattle.model.proofs.core.State as core
 use Rattle.model.proofs.core.State.{Claim, Past, State, prepares, prepares_in, says_inquiry, says_reply, state_with_node, has_voted_yes}
 use Rattle.model.proofs.core.Facts.{Justified, Known, Ended, Extends, justified_stays}
@@ -33,13 +31,13 @@ use Rattle.model.proofs.bridge.Tests.{stands_some, some_stands, found_is, found_
 use Rattle.model.proofs.bridge.ItemEffects.{cell_at}
 use Rattle.model.proofs.bridge.ItemBook.{item_book}
 use Rattle.model.proofs.bridge.SerialMemories.{logged_entry}
-use Rattle.model.proofs.bridge.Abstraction.{Touched, cluster_seen, node_seen, entries_seen, condition_seen, claim_of}
-use Rattle.model.proofs.bridge.Tables.{EntryCopies, AboutRecovery, NodeFits, UnresolvedFits, MessageFits, node_stays, messages_stay}
+use Rattle.model.proofs.bridge.Abstraction.{Touched, cluster_seen, node_seen, entries_seen, condition_seen}
+use Rattle.model.proofs.bridge.Tables.{AboutRecovery, NodeFits, UnresolvedFits, node_stays}
 use Rattle.model.proofs.bridge.Sound.{Sound, Step, agreed, step_nothing}
-use Rattle.model.proofs.bridge.NodeSteps.{step_node, step_node_down, step_then, step_writes_none, wrote_others, wrote_here}
+use Rattle.model.proofs.bridge.NodeSteps.{step_node, step_node_down, step_then, wrote_others, wrote_here}
 use Rattle.model.proofs.bridge.WriteSteps.{all_set, step_torn}
 use Rattle.model.proofs.bridge.Talk.{step_sends}
-use Rattle.model.proofs.bridge.Collect.{step_carried, done_node}
+use Rattle.model.proofs.bridge.Collect.{step_carried}
 use Rattle.model.proofs.bridge.Quiet.{step_quiet, step_without_effect}
 
 unseen : (tid : ℕ) (es : List Entry) → Some (λ (e : core.Entry). e.tid ≡ tid) (entries_seen es) → Some (λ (e : Entry). e.tid ≡ tid) es

@@ -1,25 +1,24 @@
 -- Calls that open a minitransaction or ask another node: open, recover, inquire, query.
-use Rattle.std.proofs.Common.{◌≡◌, ℕ, zero, suc, ◌+◌, ◌-◌, ◌<◌, ◌≤◌, Bool, true, false, cond, not, ◌&&◌, ◌||◌, eqb, ltb, leb, ◌⊎◌, List, [], ◌∷◌, ◌++◌, map, length, get_or, replicate, Some as SomeOf, None, Option, sym, refl, ap, ◌∙◌, subst, ap₂, inl, inr, ⊎_elim, add-one, arith}
-use Rattle.std.specs.List.{remove, AllByRecursion as All}
-use Rattle.std.proofs.lemmas.Bool.{cases_lt, both_ways, and_parts, ltb-true, ltb-false, eqb-true}
+use Rattle.std.proofs.Common.{◌≡◌, ℕ, suc, ◌+◌, ◌<◌, ◌≤◌, true, false, not, ◌&&◌, eqb, ◌⊎◌, List, [], ◌∷◌, ◌++◌, map, length, get_or, replicate, Some as SomeOf, None, Option, sym, refl, ap, ◌∙◌, subst, ap₂, inl, inr, add-one, arith}
+use Rattle.std.specs.List.{AllByRecursion as All}
+use Rattle.std.proofs.lemmas.Bool.{cases_lt, both_ways, and_parts, ltb-true, ltb-false}
 use Rattle.std.proofs.lemmas.List.{map-append, get_or-replicate, get_or_past, length-replicate}
-use Rattle.model.specs.declared.condition.Condition.{Condition}
-use Rattle.model.specs.declared.condition.Condition.TheVariants.{Up, Down, Recovering}
+use Rattle.model.specs.declared.condition.Condition.TheVariants.{Up}
 use Rattle.model.specs.declared.party.Party.{Party}
 use Rattle.model.specs.declared.party.Party.TheVariants.{Node as NodeParty, Coordinator as CoordinatorParty, Recovery as RecoveryParty}
 use Rattle.model.specs.declared.vote.Vote.{Vote}
 use Rattle.model.specs.Items.{Item}
 use Rattle.model.specs.Numbers.{most_nodes}
 use Rattle.model.specs.Cells.{Cell}
-use Rattle.model.specs.Lists.{place, stands}
+use Rattle.model.specs.Lists.{stands}
 use Rattle.model.specs.Ranges.{items_at}
 use Rattle.model.specs.Participants.{includes, members, participants_of}
-use Rattle.model.specs.Messages.{Body, Message, prepare, voted, finish, inquiry, reply, query, settled}
+use Rattle.model.specs.Messages.{Body, prepare, voted, finish, inquiry, reply, query, settled}
 use Rattle.model.specs.Journal.{Entry, Journal, is_empty, oldest, past, no_entry}
-use Rattle.model.specs.Node.{Node, Doubt, Unresolved, journal_of, is_in_doubt, doubt_of, doubt_tid, no_doubt, is_unresolved, unresolved_of, unresolved_tid, no_unresolved}
-use Rattle.model.specs.Cluster.{Cluster, Coordinator, Recovery, has_node, node_at, sent, to_each, new_coordinator, new_recovery}
+use Rattle.model.specs.Node.{Doubt, Unresolved, journal_of, is_in_doubt, doubt_of, doubt_tid, no_doubt, is_unresolved, unresolved_of, unresolved_tid, no_unresolved}
+use Rattle.model.specs.Cluster.{Cluster, Recovery, has_node, node_at, sent, to_each, new_recovery}
 use Rattle.model.specs.Calls.{opening, prepare_to, inquiry_to, query_to, is_other, recovering_of}
-use Rattle.model.specs.Deeds.{Deed, nothing, asked}
+use Rattle.model.specs.Deeds.{nothing, asked}
 use Rattle.model.proofs.core.Lists.{Some, has, all_map, all_push, all_append, some_map}
 use Rattle.model.proofs.core.State as core
 use Rattle.model.proofs.core.State.{Claim, says_prepare, says_vote, says_reply, says_inquiry, says_query, prepare_each, Past, State, saw_at, prepares, prepares_in, state_with_network}
@@ -30,7 +29,7 @@ use Rattle.model.proofs.bridge.Tests.{stands_some, found_is, found_all}
 use Rattle.model.proofs.bridge.ItemBook.{item_book, item_book_lawful}
 use Rattle.model.proofs.bridge.SerialMemories.{Within, has_members_below}
 use Rattle.model.proofs.bridge.Abstraction.{Touched, cluster_seen, node_seen, entry_seen, entries_seen, claim_of}
-use Rattle.model.proofs.bridge.Tables.{Open, EntryCopies, AboutRecovery, BodyFits, CoordinatorFits, RecoveryFits, MessageFits, NodeFits, UnresolvedFits, Tables, coordinator_stays, recovery_stays, messages_stay}
+use Rattle.model.proofs.bridge.Tables.{Open, EntryCopies, AboutRecovery, BodyFits, RecoveryFits, NodeFits, UnresolvedFits, coordinator_stays, recovery_stays, messages_stay}
 use Rattle.model.proofs.bridge.Sound.{Sound, Step, network_sound, network_extended, agreed, claims_justified}
 use Rattle.model.proofs.bridge.Talk.{step_sends, each_justified, each_fits, each_no_prepare}
 

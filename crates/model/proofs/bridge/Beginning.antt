@@ -1,19 +1,18 @@
 -- A cluster that was made well is sound.
-use Rattle.std.proofs.Common.{◌≡◌, ℕ, zero, suc, ◌+◌, ◌<◌, ◌≤◌, Bool, true, false, cond, ◌&&◌, ◌||◌, eqb, ltb, leb, ◌⊎◌, List, [], ◌∷◌, ◌++◌, map, length, get_or, sym, refl, ap, ◌∙◌, subst, ap₂, inl, inr, arith}
+use Rattle.std.proofs.Common.{◌≡◌, ℕ, zero, suc, ◌<◌, Bool, true, false, ◌&&◌, eqb, leb, List, [], ◌∷◌, map, length, get_or, sym, refl, ap, ◌∙◌, subst, arith}
 use mathlib.Core.Path.{fun_ext}
 use Rattle.std.specs.List.{AllByRecursion as All}
 use Rattle.std.proofs.lemmas.Bool.{and_parts, eqb-true}
 use Rattle.std.proofs.lemmas.List.{nil_from_length, length-map}
-use Rattle.model.specs.declared.condition.Condition.{Condition}
-use Rattle.model.specs.declared.condition.Condition.TheVariants.{Up, Down, Recovering}
+use Rattle.model.specs.declared.condition.Condition.TheVariants.{Up}
 use Rattle.model.specs.Items.{Item}
 use Rattle.model.specs.Numbers.{most_nodes, most_entries}
 use Rattle.model.specs.Cells.{Cell}
-use Rattle.model.specs.Lists.{place, stands, among, every}
-use Rattle.model.specs.Journal.{Journal, is_empty, is_as_made, is_forced}
+use Rattle.model.specs.Lists.{place, among}
+use Rattle.model.specs.Journal.{Journal, is_empty, is_as_made}
 use Rattle.model.specs.Writes.{Stores}
-use Rattle.model.specs.Node.{Node, no_node, nothing_but, journal_of}
-use Rattle.model.specs.Cluster.{Cluster, node_at}
+use Rattle.model.specs.Node.{Node, no_node, nothing_but}
+use Rattle.model.specs.Cluster.{node_at}
 use Rattle.model.specs.Making.{making, is_well_made}
 use Rattle.model.specs.SerialRun.{memory_at}
 use Rattle.model.proofs.core.Lists.{all_map}
@@ -25,7 +24,7 @@ use Rattle.model.proofs.bridge.Tests.{every_all}
 use Rattle.model.proofs.bridge.ItemEffects.{cell_at}
 use Rattle.model.proofs.bridge.ItemBook.{item_book}
 use Rattle.model.proofs.bridge.Abstraction.{cluster_seen, node_seen, condition_seen}
-use Rattle.model.proofs.bridge.Tables.{Open, NodeFits, Tables}
+use Rattle.model.proofs.bridge.Tables.{Open, NodeFits}
 use Rattle.model.proofs.bridge.Sound.{Sound}
 use Rattle.model.proofs.bridge.NodeSteps.{no_bits}
 

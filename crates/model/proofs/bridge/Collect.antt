@@ -1,38 +1,36 @@
 -- The call collect, and what is common to calls with a write budget.
-use Rattle.std.proofs.Common.{◌≡◌, ℕ, zero, suc, ◌+◌, ◌-◌, ◌<◌, ◌≤◌, Bool, true, false, cond, not, ◌&&◌, ◌||◌, eqb, ltb, leb, ◌⊎◌, List, [], ◌∷◌, ◌++◌, map, length, get_or, take, drop, set, Some as SomeOf, None, Option, sym, refl, ap, ◌∙◌, subst, inl, inr, ⊎_elim, arith}
+use Rattle.std.proofs.Common.{◌≡◌, ℕ, zero, suc, ◌<◌, ◌≤◌, Bool, true, false, cond, not, ◌&&◌, ◌||◌, eqb, ◌⊎◌, List, [], ◌∷◌, map, length, get_or, take, drop, Some as SomeOf, None, Option, sym, refl, ap, ◌∙◌, subst, inl, inr, ⊎_elim, arith}
 use Rattle.std.specs.List.{AllByRecursion as All}
 use Rattle.std.proofs.lemmas.Bool.{both_ways, and_parts, or_cases, not-true, ltb-false, eqb-true}
 use Rattle.std.proofs.lemmas.List.{append-nil}
 use Rattle.model.specs.declared.outcome.Outcome.{Outcome}
-use Rattle.model.specs.declared.condition.Condition.{Condition}
-use Rattle.model.specs.declared.condition.Condition.TheVariants.{Up, Down, Recovering}
+use Rattle.model.specs.declared.condition.Condition.TheVariants.{Up, Recovering}
 use Rattle.model.specs.Items.{Item}
 use Rattle.model.specs.Numbers.{most_nodes}
 use Rattle.model.specs.Cells.{Cell}
 use Rattle.model.specs.Participants.{members, participants_of, every_member}
 use Rattle.model.specs.Answers.{Answer, power_failed}
-use Rattle.model.specs.Journal.{Entry, Journal, is_empty, oldest, past, says, no_entry, is_forced}
-use Rattle.model.specs.Writes.{Stores, Write, drop_oldest, applied, applied_all, fails, budgeted}
-use Rattle.model.specs.Node.{Node, Doubt, Volatile, journal_of, powerless, of_none}
+use Rattle.model.specs.Journal.{Entry, oldest, past, says, no_entry, is_forced}
+use Rattle.model.specs.Writes.{Stores, drop_oldest, applied_all, fails}
+use Rattle.model.specs.Node.{Node, powerless}
 use Rattle.model.specs.Cluster.{Cluster, node_at, with_node, sent}
 use Rattle.model.specs.Handling.{Effect, collecting}
 use Rattle.model.specs.Calls.{carried, is_collectable}
-use Rattle.model.specs.Deeds.{Deed, wrote, wrote_by, touched, touched_by_all, yes_after, yes_by_all}
-use Rattle.model.proofs.core.Lists.{Some, every_has, has}
+use Rattle.model.specs.Deeds.{wrote, wrote_by, touched, touched_by_all, yes_after, yes_by_all}
+use Rattle.model.proofs.core.Lists.{every_has}
 use Rattle.model.proofs.core.State as core
 use Rattle.model.proofs.core.State.{Past, State, absent, present, state_with_node, node_with_entries, says_settled, in_condition, up, down}
 use Rattle.model.proofs.core.Facts.{Justified}
 use Rattle.model.proofs.core.Agreement.{Durable, absent_not_durable}
 use Rattle.model.proofs.core.Outcomes.{present_not_absent}
 use Rattle.model.proofs.core.Collect.{Droppable, droppable_no, droppable_settled, dropped, dropped_extends}
-use Rattle.model.proofs.core.Again.{then_powerless, then_powerless_extends}
 use Rattle.model.proofs.bridge.ItemEffects.{cell_at}
 use Rattle.model.proofs.bridge.ItemBook.{item_book}
 use Rattle.model.proofs.bridge.SerialMemories.{logged_entry}
-use Rattle.model.proofs.bridge.Abstraction.{Touched, cluster_seen, node_seen, stores_seen, entry_seen, entries_seen, outcome_seen, condition_seen}
-use Rattle.model.proofs.bridge.Tables.{EntryCopies, Open, NodeFits, Tables}
+use Rattle.model.proofs.bridge.Abstraction.{Touched, cluster_seen, node_seen, entry_seen, entries_seen, outcome_seen, condition_seen}
+use Rattle.model.proofs.bridge.Tables.{EntryCopies, Open, NodeFits}
 use Rattle.model.proofs.bridge.Sound.{Sound, Step, agreed}
-use Rattle.model.proofs.bridge.NodeSteps.{step_node, step_node_down, step_writes_none, no_bits, powerless_fits, wrote_others, wrote_here}
+use Rattle.model.proofs.bridge.NodeSteps.{step_node, step_node_down, step_writes_none, no_bits, wrote_others, wrote_here}
 
 -- ## Write budgets
 

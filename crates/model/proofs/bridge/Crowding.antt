@@ -1,20 +1,18 @@
 -- The table of minitransactions in doubt is never full before the journal.
-use Rattle.std.proofs.Common.{◌≡◌, ℕ, zero, suc, ◌+◌, ◌<◌, ◌≤◌, Bool, true, false, ◌⊎◌, List, [], ◌∷◌, map, length, sym, refl, ap, ◌∙◌, subst, inl, inr, arith}
+use Rattle.std.proofs.Common.{◌≡◌, ℕ, ◌≤◌, true, List, [], ◌∷◌, map, length, sym, refl, inl, inr, arith}
 use Rattle.std.specs.List.{AllByRecursion as All}
 use Rattle.std.proofs.lemmas.List.{length-map}
-use Rattle.model.specs.declared.condition.Condition.TheVariants.{Up, Down}
 use Rattle.model.specs.Items.{Item}
-use Rattle.model.specs.Journal.{Entry, tid_of, is_full}
-use Rattle.model.specs.Node.{Node, Doubt, doubt_tid, journal_of, is_up}
+use Rattle.model.specs.Journal.{Entry, tid_of}
+use Rattle.model.specs.Node.{Doubt, doubt_tid, journal_of, is_up}
 use Rattle.model.specs.Cluster.{node_at}
 use Rattle.model.specs.Making.{is_well_made}
-use Rattle.model.specs.Handling.{is_crowded}
 use Rattle.model.specs.History.{History, Faithful, plain}
 use Rattle.model.specs.Unreached.{NoTableFillsFirst}
 use Rattle.model.proofs.Keeping.{every_journal_bounded}
 use Rattle.model.proofs.Counting.{Stands, Apart, apart_fit, crowded_full}
 use Rattle.model.proofs.core.Lists.{Some, Pairs}
-use Rattle.model.proofs.bridge.Tables.{Open, NodeFits}
+use Rattle.model.proofs.bridge.Tables.{Open}
 use Rattle.model.proofs.bridge.Performs.{up_is}
 use Rattle.model.proofs.bridge.Powered.{up_has_power, power_made, book_at, powered_fits}
 

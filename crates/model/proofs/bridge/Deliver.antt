@@ -1,5 +1,5 @@
 -- The call deliver: a message leaves the network and its receiver takes it, or it is lost.
-use Rattle.std.proofs.Common.{◌≡◌, ℕ, zero, suc, ◌+◌, ◌-◌, ◌<◌, ◌≤◌, Bool, true, false, cond, not, ◌&&◌, ◌||◌, ◌⊎◌, List, [], ◌∷◌, ◌++◌, map, length, get_or, set, sym, refl, ap, ◌∙◌, subst, inl, inr, ⊎_elim, arith}
+use Rattle.std.proofs.Common.{◌≡◌, ℕ, zero, suc, ◌<◌, true, ◌⊎◌, List, [], ◌∷◌, length, get_or, sym, refl, ◌∙◌, subst, inl, inr, arith}
 use Rattle.std.specs.List.{AllByRecursion as All}
 use Rattle.std.proofs.lemmas.Bool.{cond_both}
 use Rattle.model.specs.declared.condition.Condition.{Condition}
@@ -9,13 +9,12 @@ use Rattle.model.specs.declared.party.Party.TheVariants.{Node as NodeParty, Coor
 use Rattle.model.specs.Items.{Item}
 use Rattle.model.specs.Cells.{Cell}
 use Rattle.model.specs.Messages.{Body, Message, prepare, voted, finish, inquiry, reply, query, settled}
-use Rattle.model.specs.Answers.{Answer, delivered}
-use Rattle.model.specs.Node.{Node}
+use Rattle.model.specs.Answers.{delivered}
 use Rattle.model.specs.Cluster.{Cluster, Recovery, node_at, no_message, has_coordinator, has_recovery, recovery_of, recovery_number, no_recovery}
 use Rattle.model.specs.Handling.{Reaction, reaction, reacting_in}
 use Rattle.model.specs.Calls.{Result, reacted, delivered_to, delivering, message_at, without_message, recovery_hears}
-use Rattle.model.specs.Deeds.{Deed, nothing, received_by, reacted_with}
-use Rattle.model.proofs.core.Lists.{Some, At}
+use Rattle.model.specs.Deeds.{nothing, received_by, reacted_with}
+use Rattle.model.proofs.core.Lists.{At}
 use Rattle.model.proofs.core.State as core
 use Rattle.model.proofs.core.State.{Claim, says_prepare, Past, State}
 use Rattle.model.proofs.core.Facts.{Justified, justified_stays}
@@ -24,7 +23,7 @@ use Rattle.model.proofs.bridge.Tests.{stands_some, found_is, found_all}
 use Rattle.model.proofs.bridge.ItemBook.{item_book}
 use Rattle.model.proofs.bridge.SerialMemories.{Within}
 use Rattle.model.proofs.bridge.Abstraction.{Touched, cluster_seen, claimed, claim_of, claim_at, not_down_there}
-use Rattle.model.proofs.bridge.Tables.{BodyFits, MessageFits, Tables, messages_stay}
+use Rattle.model.proofs.bridge.Tables.{BodyFits, MessageFits, messages_stay}
 use Rattle.model.proofs.bridge.Sound.{Sound, Step, agreed, step_nothing, lost_sound, lost_extends, after_loss}
 use Rattle.model.proofs.bridge.Quiet.{step_without_effect, step_queried, step_acknowledged, step_settled_by_none}
 use Rattle.model.proofs.bridge.Answering.{step_replied, step_inquired}

@@ -1,5 +1,5 @@
 -- Every history that can be obeys the laws.
-use Rattle.std.proofs.Common.{◌≡◌, true, false, ⊎_elim}
+use Rattle.std.proofs.Common.{◌≡◌, true, ⊎_elim}
 use Rattle.std.proofs.lemmas.Bool.{cases_Bool}
 use Rattle.model.specs.Making.{is_well_made}
 use Rattle.model.specs.History.{History, Faithful}

@@ -1,23 +1,22 @@
 -- A node that is up takes a finish: the outcome is noted, on yes the write items are written, and nothing is in doubt any more.
-use Rattle.std.proofs.Common.{◌≡◌, ℕ, zero, suc, ◌+◌, ◌-◌, ◌<◌, ◌≤◌, Bool, true, false, cond, not, ◌&&◌, ◌||◌, eqb, ltb, leb, ◌⊎◌, List, [], ◌∷◌, ◌++◌, map, length, get_or, take, drop, set, Some as SomeOf, None, Option, sym, refl, ap, ◌∙◌, subst, ap₂, inl, inr, ⊎_elim, arith}
+use Rattle.std.proofs.Common.{◌≡◌, ℕ, zero, suc, ◌<◌, Bool, true, false, cond, eqb, ◌⊎◌, List, [], ◌∷◌, map, length, get_or, take, set, Some as SomeOf, sym, refl, ap, ◌∙◌, subst, inl, inr, arith}
 use Rattle.std.specs.List.{remove, AllByRecursion as All}
 use Rattle.std.proofs.lemmas.Bool.{cases_eq, both_ways, eq-eqb, ne_eqb, cond_both}
 use Rattle.std.proofs.lemmas.List.{take-map, length-set, length-map}
-use Rattle.model.specs.declared.condition.Condition.{Condition}
-use Rattle.model.specs.declared.condition.Condition.TheVariants.{Up, Down, Recovering}
+use Rattle.model.specs.declared.condition.Condition.TheVariants.{Up, Recovering}
 use Rattle.model.specs.Items.{Item}
 use Rattle.model.specs.Cells.{Cell}
-use Rattle.model.specs.Lists.{place, stands, only}
+use Rattle.model.specs.Lists.{place}
 use Rattle.model.specs.Ranges.{items_at, writes_in, is_write}
 use Rattle.model.specs.Answers.{Answer}
-use Rattle.model.specs.Journal.{Entry, Journal, tid_of, no_entry, with_outcome, pending, made_durable, is_empty, oldest}
+use Rattle.model.specs.Journal.{Entry, tid_of, no_entry, with_outcome, pending, made_durable, is_empty, oldest}
 use Rattle.model.specs.Writes.{Stores, Write, add_entry, force, note, put, flush_memory, flush_journal, point, drop_oldest, applied, applied_all}
 use Rattle.model.specs.Node.{Node, Doubt, Volatile, journal_of, cells_of, is_in_doubt, doubt_of, doubt_tid, no_doubt, powerless}
-use Rattle.model.specs.Cluster.{Cluster, node_at, with_node, sent}
-use Rattle.model.specs.Handling.{Effect, finishing, finished, without_effect, puts_if}
+use Rattle.model.specs.Cluster.{Cluster, node_at, with_node}
+use Rattle.model.specs.Handling.{Effect, finishing, finished, puts_if}
 use Rattle.model.specs.Calls.{carried}
-use Rattle.model.specs.Deeds.{Deed, wrote, wrote_by, touched}
-use Rattle.model.proofs.core.Lists.{Some, Pairs, all_map, all_two, all_take, all_some, some_map}
+use Rattle.model.specs.Deeds.{wrote, wrote_by, touched}
+use Rattle.model.proofs.core.Lists.{Some, Pairs, all_two, all_take, all_some, some_map}
 use Rattle.model.proofs.core.State as core
 use Rattle.model.proofs.core.State.{Past, State, absent, present, state_with_node, in_condition, up, write_all, write_items, outcomes, says_finish, says_settled}
 use Rattle.model.proofs.core.Facts.{Justified, Known, Extends}
@@ -27,13 +26,13 @@ use Rattle.model.proofs.core.Writes.{Allowed, write_all_items}
 use Rattle.model.proofs.core.Finish as finish
 use Rattle.model.proofs.core.Finish.{InDoubt, finish_writes, finish_known, finish_allowed}
 use Rattle.model.proofs.core.Resume.{of_tid, of_tid_names}
-use Rattle.model.proofs.bridge.Tests.{stands_some, some_stands, found_is, found_all, only_all, only_passes}
+use Rattle.model.proofs.bridge.Tests.{stands_some, found_is, found_all, only_all, only_passes}
 use Rattle.model.proofs.bridge.ItemEffects.{Fits, item_effect}
 use Rattle.model.proofs.bridge.ItemBook.{item_book}
 use Rattle.model.proofs.bridge.SerialMemories.{Within, within_at, logged_entry}
 use Rattle.model.proofs.bridge.WritesSeen.{Seen, write_seen, writes_length}
-use Rattle.model.proofs.bridge.Abstraction.{Touched, cluster_seen, node_seen, stores_seen, entry_seen, entries_seen, condition_seen}
-use Rattle.model.proofs.bridge.Tables.{EntryCopies, DoubtCopies, Open, NodeFits, node_stays}
+use Rattle.model.proofs.bridge.Abstraction.{Touched, cluster_seen, node_seen, stores_seen, entries_seen, condition_seen}
+use Rattle.model.proofs.bridge.Tables.{DoubtCopies, NodeFits, node_stays}
 use Rattle.model.proofs.bridge.Sound.{Sound, Step, all_removed}
 use Rattle.model.proofs.bridge.NodeSteps.{step_node, wrote_others}
 use Rattle.model.proofs.bridge.WriteSteps.{seen_no_yes, writes_here, entries_kept, step_torn, condition_writes}

@@ -1,5 +1,5 @@
 -- A coordinator notes a vote, a recovery a reply.
-use Rattle.std.proofs.Common.{◌≡◌, ℕ, zero, suc, ◌+◌, ◌-◌, ◌<◌, ◌≤◌, Bool, true, false, cond, not, ◌&&◌, ◌||◌, ◌⊎◌, List, [], ◌∷◌, ◌++◌, map, length, get_or, set, Some as SomeOf, None, Option, sym, refl, ap, ◌∙◌, subst, inl, inr, ⊎_elim, arith}
+use Rattle.std.proofs.Common.{◌≡◌, ℕ, ◌<◌, ◌≤◌, Bool, true, ◌⊎◌, List, [], length, get_or, set, Some as SomeOf, None, Option, sym, refl, ap, ◌∙◌, subst, inl, inr, ⊎_elim}
 use Rattle.std.specs.List.{AllByRecursion as All}
 use Rattle.std.proofs.lemmas.Bool.{cases_eq, cases_lt, cond_both}
 use Rattle.std.proofs.lemmas.List.{get_or-set_same, get_or-set_other, set_past, length-set}
@@ -22,7 +22,7 @@ use Rattle.model.proofs.bridge.Tests.{stands_some, found_is, found_all}
 use Rattle.model.proofs.bridge.ItemEffects.{items_read}
 use Rattle.model.proofs.bridge.ItemBook.{item_book}
 use Rattle.model.proofs.bridge.Abstraction.{Touched, cluster_seen, claimed}
-use Rattle.model.proofs.bridge.Tables.{AboutRecovery, BodyFits, VoteReads, CoordinatorFits, RecoveryFits, MessageFits, Tables}
+use Rattle.model.proofs.bridge.Tables.{AboutRecovery, BodyFits, CoordinatorFits, RecoveryFits, MessageFits}
 use Rattle.model.proofs.bridge.Sound.{Sound, Step, step_coordinators}
 use Rattle.model.proofs.bridge.WriteSteps.{all_set}
 

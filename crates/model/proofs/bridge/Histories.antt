@@ -1,7 +1,6 @@
 -- Sound along a whole history: every call is a step, tids are given in order, and the book has the items of each.
-use Rattle.std.proofs.Common.{◌≡◌, ℕ, zero, suc, ◌+◌, ◌-◌, ◌<◌, ◌≤◌, Bool, true, false, cond, ◌⊎◌, List, [], ◌∷◌, ◌++◌, map, length, get_or, Some as SomeOf, None, Option, sym, refl, ap, ◌∙◌, subst, inl, inr, ⊎_elim, arith}
+use Rattle.std.proofs.Common.{◌≡◌, ℕ, ◌+◌, Bool, true, false, cond, List, Some as SomeOf, None, Option, refl, ap, ◌∙◌, subst, arith}
 use Rattle.std.proofs.lemmas.Bool.{cond_both}
-use Rattle.std.proofs.lemmas.List.{length-append}
 use Rattle.model.specs.declared.party.Party.{Party}
 use Rattle.model.specs.declared.party.Party.TheVariants.{Node as NodeParty, Coordinator as CoordinatorParty, Recovery as RecoveryParty}
 use Rattle.model.specs.declared.refusal.Refusal.{Refusal}
@@ -15,7 +14,7 @@ use Rattle.model.specs.Node.{Left, recovering as restarting}
 use Rattle.model.specs.Cluster.{Cluster, node_at, with_node, has_coordinator, has_recovery}
 use Rattle.model.specs.Handling.{Effect, Reaction, lost, taken, reaction}
 use Rattle.model.specs.Calls.{Call, opens, delivers, loses, decides, leaves, recovers, rules, stops, cuts, wakes, inquires, resumes, settles, queries, collects, shows, Result, first_of, open_refusals, opening, open_items, answered, carried, reacted, delivered_to, message_at, without_message, wake_refusals, performed, step}
-use Rattle.model.specs.Deeds.{Deed, asked, wrote, woke, nothing, unless, deed_of, asked_for, wrote_by, reacted_with, received_by, deed, asked_after}
+use Rattle.model.specs.Deeds.{Deed, asked, wrote, woke, nothing, unless, deed_of, asked_for, reacted_with, received_by, deed}
 use Rattle.model.specs.History.{LeftBy}
 use Rattle.model.proofs.core.State.{Past}
 use Rattle.model.proofs.bridge.SerialMemories.{Within}

@@ -1,17 +1,17 @@
 -- Lists of items are a lawful instance of what the core calls minitransactions.
-use Rattle.std.proofs.Common.{◌≡◌, ℕ, zero, suc, ◌+◌, ◌-◌, ◌^◌, ◌<◌, ◌≤◌, Bool, true, false, cond, not, ◌&&◌, ◌||◌, eqb, ltb, leb, ◌⊎◌, List, [], ◌∷◌, ◌++◌, map, sym, refl, ap, ◌∙◌, subst, ap₂, inl, inr, ⊎_elim, arith}
+use Rattle.std.proofs.Common.{◌≡◌, ℕ, zero, suc, ◌+◌, ◌^◌, ◌<◌, ◌≤◌, Bool, true, false, cond, not, ◌&&◌, ◌||◌, eqb, ltb, leb, ◌⊎◌, List, [], ◌∷◌, ◌++◌, map, sym, refl, ap, ◌∙◌, subst, inl, inr, ⊎_elim, arith}
 use Rattle.std.specs.List.{AllByRecursion as All}
-use Rattle.std.proofs.lemmas.Bool.{cases_eq, cases_Bool, both_ways, and_parts, and_from, or_left, or_right, or_cases, not-true, leb-true, ltb-true, lt-ltb, eqb-true, eq-eqb, ne_eqb}
-use Rattle.model.specs.Items.{Item, compare, read, write}
+use Rattle.std.proofs.lemmas.Bool.{both_ways, and_parts, and_from, or_left, or_right, leb-true, ltb-true, lt-ltb, eq-eqb, ne_eqb}
+use Rattle.model.specs.Items.{Item}
 use Rattle.model.specs.ItemFormat.{span}
 use Rattle.model.specs.Numbers.{most_nodes}
 use Rattle.model.specs.Lists.{some, every, only}
-use Rattle.model.specs.Cells.{Cell, no_cell}
-use Rattle.model.specs.Ranges.{node_of, address_of, is_write, items_at, writes_in, covers, overlap, clash, clashing, writes_byte}
+use Rattle.model.specs.Cells.{Cell}
+use Rattle.model.specs.Ranges.{address_of, is_write, items_at, writes_in, covers, overlap, clashing, writes_byte}
 use Rattle.model.specs.Participants.{includes, members_below, members, is_named, named_below, participants_of}
-use Rattle.model.proofs.core.Lists.{Some, has, Distinct, all_map, all_two, some_map, some_all}
-use Rattle.model.proofs.core.State.{Effect, keep, put, applied, puts, followed, together, Minitransaction, Book, Lawful, Conflict, effect}
-use Rattle.model.proofs.bridge.Tests.{some_found, some_none, some_from, every_alike, only_passes, only_some}
+use Rattle.model.proofs.core.Lists.{Some, has, Distinct, all_map, some_map}
+use Rattle.model.proofs.core.State.{Effect, keep, put, puts, followed, together, Book, Lawful, Conflict}
+use Rattle.model.proofs.bridge.Tests.{some_found, some_from, every_alike}
 use Rattle.model.proofs.bridge.ItemEffects.{item_effect, puts_covers, covers_puts, holds_of, holds_alike, Alike}
 
 -- a byte that an item reads or compares

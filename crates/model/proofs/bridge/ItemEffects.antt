@@ -1,15 +1,15 @@
 -- What items do to a memory, byte by byte: putting, comparing and reading ranges of cells.
-use Rattle.std.proofs.Common.{◌≡◌, ℕ, zero, suc, ◌+◌, ◌-◌, ◌<◌, ◌≤◌, Bool, true, false, cond, not, ◌&&◌, ◌||◌, eqb, ltb, leb, ◌⊎◌, List, [], ◌∷◌, ◌++◌, map, length, get_or, take, drop, sym, refl, ap, ◌∙◌, subst, ap₂, inl, inr, ⊎_elim, add-one, arith}
+use Rattle.std.proofs.Common.{◌≡◌, ℕ, zero, suc, ◌+◌, ◌-◌, ◌<◌, ◌≤◌, Bool, true, false, cond, ◌&&◌, ltb, leb, ◌⊎◌, List, [], ◌∷◌, ◌++◌, length, get_or, take, drop, refl, ap, ◌∙◌, ap₂, inl, inr, add-one, arith}
 use Rattle.std.specs.List.{AllByRecursion as All}
-use Rattle.std.proofs.lemmas.Bool.{cases_Bool, cases_lt, both_ways, and_parts, leb-true, ltb-true, lt-ltb, le-leb, le-ltb, lt-leb}
+use Rattle.std.proofs.lemmas.Bool.{cases_Bool, cases_lt, both_ways, leb-true, lt-ltb, le-leb, le-ltb, lt-leb}
 use Rattle.std.proofs.lemmas.List.{get_or_append_left, get_or-append_right, get_or-take, get_or-drop, length-take-le, length-append, length-drop, drop_more}
 use Rattle.model.specs.Items.{Item, compare, read, write}
 use Rattle.model.specs.ItemFormat.{span}
-use Rattle.model.specs.Lists.{some, every, only, joined_by}
-use Rattle.model.specs.Cells.{Cell, no_cell, shown, matches, stored, within, part, splice, read_at, matches_at, written_at}
-use Rattle.model.specs.Ranges.{node_of, address_of, is_write, covers, holds, all_hold, read_item, read_items, put_item, put_items, writes_in}
+use Rattle.model.specs.Lists.{every, joined_by}
+use Rattle.model.specs.Cells.{Cell, no_cell, shown, matches, stored, within, part, splice, written_at}
+use Rattle.model.specs.Ranges.{address_of, is_write, covers, holds, all_hold, read_item, read_items, put_item}
 use Rattle.model.proofs.core.Lists.{all_map}
-use Rattle.model.proofs.core.State.{Effect, keep, put, applied, puts, followed, together}
+use Rattle.model.proofs.core.State.{Effect, keep, put, applied, puts}
 use Rattle.model.proofs.bridge.Tests.{every_alike}
 
 -- the byte at an address; past the end there is none

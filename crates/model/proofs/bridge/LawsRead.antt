@@ -1,5 +1,5 @@
 -- Laws of a history of a cluster that was made well, in the words of the rules.
-use Rattle.std.proofs.Common.{◌≡◌, ℕ, zero, suc, ◌+◌, ◌<◌, ◌≤◌, Bool, true, false, List, [], ◌∷◌, ◌++◌, map, length, drop, Some as SomeOf, None, Option, sym, refl, ap, ◌∙◌, subst, arith}
+use Rattle.std.proofs.Common.{◌≡◌, ℕ, zero, suc, Bool, true, List, [], ◌∷◌, map, length, Some as SomeOf, sym, refl, ap, ◌∙◌, arith}
 use Rattle.std.specs.List.{AllByRecursion as All, slice_get}
 use Rattle.std.proofs.lemmas.List.{length-map}
 use Rattle.model.specs.Items.{Item}
@@ -8,17 +8,15 @@ use Rattle.model.specs.Writes.{Stores}
 use Rattle.model.specs.Making.{is_well_made}
 use Rattle.model.specs.History.{Event, History, Faithful, ago}
 use Rattle.model.specs.Deeds as deeds
-use Rattle.model.specs.SerialRun.{Memories, Turn, turns, turn_of, serial_turn, serial_order, memories_made, items_of, yes_entries}
+use Rattle.model.specs.SerialRun.{Turn, turns, turn_of, serial_turn, serial_order, memories_made, items_of, yes_entries}
 use Rattle.model.specs.Laws.{FinishedAt}
 use Rattle.model.proofs.core.Lists.{Pairs, all_each}
-use Rattle.model.proofs.core.State as core
 use Rattle.model.proofs.core.State.{State, Yes, serial_run}
-use Rattle.model.proofs.core.Memories.{Invariant}
 use Rattle.model.proofs.core.Laws.{serial_fits}
 use Rattle.model.proofs.bridge.ItemBook.{item_book, item_book_lawful}
 use Rattle.model.proofs.bridge.SerialMemories.{Within, Sized, made_cells, turns_same, logged_entry}
 use Rattle.model.proofs.bridge.SerialTurns.{turn_compared}
-use Rattle.model.proofs.bridge.Beginning.{sizes_of, past_of}
+use Rattle.model.proofs.bridge.Beginning.{sizes_of}
 use Rattle.model.proofs.bridge.Abstraction.{cluster_seen}
 use Rattle.model.proofs.bridge.Reached.{Reached, moment}
 use Rattle.model.proofs.bridge.Agreed.{finished_alike_lem}

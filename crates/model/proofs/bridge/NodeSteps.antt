@@ -1,19 +1,16 @@
 -- A call that changes one node: from what the core shows of the node to a step of the cluster. Loss of power.
-use Rattle.std.proofs.Common.{◌≡◌, ℕ, zero, suc, ◌+◌, ◌-◌, ◌<◌, ◌≤◌, Bool, true, false, cond, not, ◌&&◌, ◌||◌, eqb, ltb, leb, ◌⊎◌, List, [], ◌∷◌, ◌++◌, map, length, get_or, take, set, replicate, sym, refl, ap, ◌∙◌, subst, inl, inr, ⊎_elim, arith}
+use Rattle.std.proofs.Common.{◌≡◌, ℕ, ◌<◌, ◌≤◌, Bool, true, false, ◌⊎◌, List, [], map, length, get_or, set, replicate, sym, refl, ap, ◌∙◌, subst, inl, inr, arith}
 use Rattle.std.specs.List.{AllByRecursion as All}
 use Rattle.std.proofs.lemmas.Bool.{cases_eq, cases_lt, both_ways, eq-eqb, ne_eqb}
 use Rattle.std.proofs.lemmas.List.{get_or-set_same, get_or-set_other, get_or-replicate, get_or_past, length-set, length-replicate}
-use Rattle.model.specs.declared.condition.Condition.{Condition}
 use Rattle.model.specs.declared.condition.Condition.TheVariants.{Up, Down, Recovering}
 use Rattle.model.specs.Items.{Item}
 use Rattle.model.specs.Numbers.{most_nodes}
 use Rattle.model.specs.Cells.{Cell}
-use Rattle.model.specs.Journal.{Entry, Journal}
-use Rattle.model.specs.Writes.{Stores, Write, add_entry, force, note, put, flush_memory, flush_journal, point, drop_oldest}
-use Rattle.model.specs.Node.{Node, no_node, journal_of, cells_of, nothing_but, powerless, of_none}
+use Rattle.model.specs.Writes.{Stores, Write}
+use Rattle.model.specs.Node.{Node, no_node, journal_of, cells_of, powerless}
 use Rattle.model.specs.Cluster.{Cluster, node_at, with_node}
 use Rattle.model.specs.Deeds.{Deed, nothing, wrote, touched, touched_by_all, yes_after, yes_by_all}
-use Rattle.model.proofs.core.Lists.{Some, all_map}
 use Rattle.model.proofs.core.State as core
 use Rattle.model.proofs.core.State.{Past, State, state_with_node, in_condition, up, down}
 use Rattle.model.proofs.core.Facts.{Extends, extends_trans}
@@ -22,8 +19,8 @@ use Rattle.model.proofs.core.Restart as restart
 use Rattle.model.proofs.core.Again.{then_powerless, then_powerless_extends}
 use Rattle.model.proofs.bridge.ItemBook.{item_book}
 use Rattle.model.proofs.bridge.SerialMemories.{logged_entry}
-use Rattle.model.proofs.bridge.Abstraction.{Touched, cluster_seen, node_seen, stores_seen, entries_seen, seen_with_node}
-use Rattle.model.proofs.bridge.Tables.{EntryCopies, CoordinatorFits, RecoveryFits, MessageFits, NodeFits, Tables, tables_stay, node_stays}
+use Rattle.model.proofs.bridge.Abstraction.{Touched, cluster_seen, node_seen, seen_with_node}
+use Rattle.model.proofs.bridge.Tables.{EntryCopies, NodeFits, Tables, tables_stay}
 use Rattle.model.proofs.bridge.Sound.{Sound, Step, claims_justified}
 
 -- ## Composing steps

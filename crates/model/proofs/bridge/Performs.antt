@@ -1,6 +1,5 @@
 -- Every call keeps the plain cluster sound, and what it knows.
-use Rattle.std.proofs.Common.{◌≡◌, ℕ, zero, suc, ◌+◌, ◌-◌, ◌<◌, ◌≤◌, Bool, true, false, cond, not, ◌&&◌, ◌||◌, eqb, ltb, leb, ◌⊎◌, List, [], ◌∷◌, ◌++◌, map, length, get_or, Some as SomeOf, None, Option, sym, refl, ap, ◌∙◌, subst, inl, inr, ⊎_elim, arith}
-use Rattle.std.specs.List.{AllByRecursion as All}
+use Rattle.std.proofs.Common.{◌≡◌, ℕ, ◌+◌, ◌<◌, Bool, true, false, cond, not, eqb, List, [], ◌∷◌, length, Some as SomeOf, None, Option, refl, arith}
 use Rattle.std.proofs.lemmas.Bool.{both_ways, or_parts, not-false, ltb-true, leb-false}
 use Rattle.model.specs.declared.condition.Condition.{Condition}
 use Rattle.model.specs.declared.condition.Condition.TheVariants.{Up, Down, Recovering}
@@ -10,7 +9,7 @@ use Rattle.model.specs.Cells.{Cell}
 use Rattle.model.specs.Requests.{decode_request}
 use Rattle.model.specs.Answers.{done}
 use Rattle.model.specs.Journal.{Entry, is_empty, oldest}
-use Rattle.model.specs.Node.{Node, Left, journal_of, is_up, is_down, is_recovering, is_unresolved, unresolved_of, some_unresolved, is_in_doubt, recovering as restarting}
+use Rattle.model.specs.Node.{Left, journal_of, is_up, is_recovering, is_unresolved, unresolved_of, is_in_doubt, recovering as restarting}
 use Rattle.model.specs.Cluster.{Cluster, has_node, node_at, with_node, has_coordinator, coordinator_of, all_voted, has_recovery, recovery_of, all_replied}
 use Rattle.model.specs.Calls.{Call, opens, delivers, loses, decides, leaves, recovers, rules, stops, cuts, wakes, inquires, resumes, settles, queries, collects, shows, Result, first_of, answered, open_items, open_refusals, opening, performed, is_collectable, is_other, carried, wake_refusals}
 use Rattle.model.specs.Handling.{collecting}

@@ -1,15 +1,15 @@
 -- A node that has power at the end of a history: its cluster was made well, and its tables fit.
-use Rattle.std.proofs.Common.{◌≡◌, ℕ, zero, suc, ◌+◌, ◌<◌, ◌≤◌, Bool, true, false, cond, ◌⊎◌, List, [], ◌∷◌, map, length, get_or, sym, refl, ap, ◌∙◌, subst, inl, inr, ⊎_elim, arith}
+use Rattle.std.proofs.Common.{◌≡◌, ℕ, zero, suc, true, false, List, [], ◌∷◌, map, length, get_or, refl, ap, ◌∙◌, ⊎_elim, arith}
 use Rattle.std.proofs.lemmas.Bool.{cases_Bool}
 use Rattle.model.specs.declared.condition.Condition.{Condition}
 use Rattle.model.specs.declared.condition.Condition.TheVariants.{Up, Down, Recovering}
 use Rattle.model.specs.Items.{Item}
 use Rattle.model.specs.Cells.{Cell}
 use Rattle.model.specs.Writes.{Stores}
-use Rattle.model.specs.Node.{Node, no_node, nothing_but, is_up, is_recovering}
+use Rattle.model.specs.Node.{no_node, nothing_but, is_up, is_recovering}
 use Rattle.model.specs.Cluster.{Cluster, node_at}
 use Rattle.model.specs.Making.{making, is_well_made}
-use Rattle.model.specs.History.{Event, History, Faithful, plain}
+use Rattle.model.specs.History.{History, Faithful, plain}
 use Rattle.model.proofs.core.State.{State}
 use Rattle.model.proofs.bridge.SerialMemories.{Within}
 use Rattle.model.proofs.bridge.Abstraction.{not_down_there}

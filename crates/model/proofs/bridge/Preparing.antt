@@ -1,34 +1,32 @@
 -- A node that is up takes a prepare: it votes yes with an entry, or never will.
-use Rattle.std.proofs.Common.{◌≡◌, ℕ, zero, suc, ◌+◌, ◌-◌, ◌<◌, ◌≤◌, Bool, true, false, cond, not, ◌&&◌, ◌||◌, eqb, ltb, leb, ◌⊎◌, List, [], ◌∷◌, ◌++◌, map, length, get_or, take, set, Some as SomeOf, None, Option, sym, refl, ap, ◌∙◌, subst, ap₂, inl, inr, ⊎_elim, add-one, arith}
+use Rattle.std.proofs.Common.{◌≡◌, ℕ, zero, suc, ◌+◌, ◌<◌, Bool, true, false, cond, not, eqb, ◌⊎◌, List, [], ◌∷◌, ◌++◌, map, length, get_or, take, set, sym, refl, ap, ◌∙◌, subst, ap₂, inl, inr, ⊎_elim, add-one, arith}
 use mathlib.Core.Path.{fun_ext}
 use Rattle.std.specs.List.{remove, AllByRecursion as All}
-use Rattle.std.proofs.lemmas.Bool.{cases_eq, cases_Bool, both_ways, or_parts, not-true, not-false, eq-eqb, ne_eqb, cond_both}
+use Rattle.std.proofs.lemmas.Bool.{cases_eq, both_ways, or_parts, not-true, not-false, ne_eqb, cond_both}
 use Rattle.std.proofs.lemmas.List.{map-append, get_or-set_same, get_or-set_other, length-set, set-set}
-use Rattle.model.specs.declared.condition.Condition.{Condition}
-use Rattle.model.specs.declared.condition.Condition.TheVariants.{Up, Down, Recovering}
-use Rattle.model.specs.declared.party.Party.{Party}
-use Rattle.model.specs.declared.party.Party.TheVariants.{Node as NodeParty, Coordinator as CoordinatorParty, Recovery as RecoveryParty}
+use Rattle.model.specs.declared.condition.Condition.TheVariants.{Up, Recovering}
+use Rattle.model.specs.declared.party.Party.TheVariants.{Coordinator as CoordinatorParty}
 use Rattle.model.specs.declared.vote.Vote.{Vote}
 use Rattle.model.specs.declared.vote.Vote.TheVariants.{Yes, Busy, Forced, Mismatch, Full}
 use Rattle.model.specs.Items.{Item}
 use Rattle.model.specs.Cells.{Cell}
-use Rattle.model.specs.Lists.{some, every}
+use Rattle.model.specs.Lists.{every}
 use Rattle.model.specs.Ranges.{items_at, writes_in, all_hold, read_items, clashing}
 use Rattle.model.specs.Participants.{participants_of}
-use Rattle.model.specs.Messages.{Body, Message, prepare, voted}
+use Rattle.model.specs.Messages.{Message, voted}
 use Rattle.model.specs.Answers.{Answer, power_failed}
-use Rattle.model.specs.Journal.{Entry, Journal, is_forced, may_vote_yes, is_full, is_empty, oldest, no_entry, next_entry, added}
-use Rattle.model.specs.Writes.{Stores, Write, add_entry, applied, applied_all, fails}
+use Rattle.model.specs.Journal.{Entry, Journal, is_forced, may_vote_yes, is_full, no_entry, next_entry}
+use Rattle.model.specs.Writes.{Stores, Write, add_entry, applied_all, fails}
 use Rattle.model.specs.Node.{Node, no_node, Doubt, Volatile, journal_of, cells_of, is_locked, powerless}
-use Rattle.model.specs.Cluster.{Cluster, node_at, with_node, with_network, sent, is_yes}
-use Rattle.model.specs.Handling.{Effect, sending, from, is_crowded, vote_on, prepared_as, prepared, doubting}
-use Rattle.model.specs.Calls.{carried, without_message, message_at}
+use Rattle.model.specs.Cluster.{Cluster, node_at, with_node, sent, is_yes}
+use Rattle.model.specs.Handling.{Effect, sending, from, is_crowded, prepared_as, prepared, doubting}
+use Rattle.model.specs.Calls.{carried, without_message}
 use Rattle.model.specs.Deeds as deeds
 use Rattle.model.specs.Deeds.{Deed, wrote, wrote_by, touched, touched_by_all, yes_after, yes_by_all}
-use Rattle.model.proofs.core.Lists.{Some, At, Pairs, without, update, update_same, update_other, all_map, all_two, all_push, all_append, all_some, all_self, some_left, some_push, some_map, pairs_push}
+use Rattle.model.proofs.core.Lists.{Some, At, update, update_same, update_other, all_map, all_two, all_push, all_append, all_some, all_self, some_left, some_push, some_map, pairs_push}
 use Rattle.model.proofs.core.State as core
 use Rattle.model.proofs.core.State.{Claim, says_prepare, says_vote, Past, State, absent, prepares, prepares_in, state_with_node, in_condition, up, down, accept, with_yes, with_new_entry, saw_at, Conflict}
-use Rattle.model.proofs.core.Facts.{Closed, not_closed, Justified, Dead, Extends, extends_trans}
+use Rattle.model.proofs.core.Facts.{not_closed, Justified, Dead, Extends, extends_trans}
 use Rattle.model.proofs.core.Agreement.{standing_voted}
 use Rattle.model.proofs.core.Memories.{Invariant}
 use Rattle.model.proofs.core.Network.{prepares_at}
@@ -36,16 +34,15 @@ use Rattle.model.proofs.core.Log.{seen_here}
 use Rattle.model.proofs.core.YesEntry.{CanVoteYes, not_yet}
 use Rattle.model.proofs.core.Moves.{accepted, accepted_extends}
 use Rattle.model.proofs.core.Justify.{refused_dead, accepted_vote}
-use Rattle.model.proofs.bridge.Tests.{some_none, every_all}
+use Rattle.model.proofs.bridge.Tests.{some_none}
 use Rattle.model.proofs.bridge.ItemEffects.{cell_at, Fits, holds_of, all_hold_cells, items_read, reads_cells}
 use Rattle.model.proofs.bridge.ItemBook.{item_book, conflict_clashes}
 use Rattle.model.proofs.bridge.SerialMemories.{Within, within_at, logged_entry}
-use Rattle.model.proofs.bridge.Abstraction.{Touched, cluster_seen, node_seen, stores_seen, entry_seen, entries_seen, condition_seen, claim_of, map_removed, claim_at}
-use Rattle.model.proofs.bridge.Tables.{EntryCopies, DoubtCopies, Open, NodeFits, MessageFits, Tables, tables_stay, node_stays, messages_stay}
-use Rattle.model.proofs.bridge.Sound.{Sound, Step, agreed, claims_justified, all_removed, lost_seen, lost_sound, lost_extends, after_loss}
-use Rattle.model.proofs.bridge.NodeSteps.{step_then, step_writes_none, step_cuts, wrote_others, wrote_here}
+use Rattle.model.proofs.bridge.Abstraction.{Touched, cluster_seen, node_seen, entry_seen, entries_seen, condition_seen, claim_of, map_removed}
+use Rattle.model.proofs.bridge.Tables.{EntryCopies, DoubtCopies, Open, NodeFits, tables_stay, node_stays}
+use Rattle.model.proofs.bridge.Sound.{Sound, Step, agreed, claims_justified, all_removed, lost_seen, lost_sound, after_loss}
+use Rattle.model.proofs.bridge.NodeSteps.{step_writes_none, step_cuts, wrote_others, wrote_here}
 use Rattle.model.proofs.bridge.Talk.{step_sends}
-use Rattle.model.proofs.bridge.Collect.{step_carried, done_node}
 use Rattle.model.proofs.bridge.Quiet.{step_quiet}
 
 some_split : {A : Type 0} (P : A → Type 0) (xs : List A) (y : A) → Some P (xs ++ y ∷ []) → Some P xs ⊎ P y

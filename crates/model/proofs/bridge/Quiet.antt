@@ -1,44 +1,41 @@
 -- A node takes a message and writes nothing: its tables change, and messages are sent. Queries, acknowledgements, replies.
-use Rattle.std.proofs.Common.{◌≡◌, ℕ, zero, suc, ◌+◌, ◌-◌, ◌<◌, ◌≤◌, Bool, true, false, cond, not, ◌&&◌, ◌||◌, eqb, ltb, leb, ◌⊎◌, List, [], ◌∷◌, ◌++◌, map, length, get_or, take, set, Some as SomeOf, None, Option, sym, refl, ap, ◌∙◌, subst, inl, inr, ⊎_elim, arith}
+use Rattle.std.proofs.Common.{◌≡◌, ℕ, zero, suc, ◌<◌, ◌≤◌, Bool, true, false, cond, not, eqb, ◌⊎◌, List, [], ◌∷◌, map, length, get_or, take, set, sym, refl, ap, ◌∙◌, subst, inl, inr, ⊎_elim, arith}
 use Rattle.std.specs.List.{AllByRecursion as All}
-use Rattle.std.proofs.lemmas.Bool.{cases_eq, cases_lt, cases_Bool, both_ways, and_parts, or_cases, not-true, ltb-false, ltb-true, eqb-true, eq-eqb, ne_eqb, cond_both}
-use Rattle.std.proofs.lemmas.List.{get_or-set_same, get_or-set_other, set_past, length-set}
-use Rattle.model.specs.declared.condition.Condition.{Condition}
-use Rattle.model.specs.declared.condition.Condition.TheVariants.{Up, Down, Recovering}
+use Rattle.std.proofs.lemmas.Bool.{cases_eq, both_ways, and_parts, or_cases, not-true, ltb-false, eqb-true, eq-eqb, ne_eqb, cond_both}
+use Rattle.std.proofs.lemmas.List.{get_or-set_other}
 use Rattle.model.specs.declared.party.Party.{Party}
-use Rattle.model.specs.declared.party.Party.TheVariants.{Node as NodeParty, Coordinator as CoordinatorParty, Recovery as RecoveryParty}
+use Rattle.model.specs.declared.party.Party.TheVariants.{Node as NodeParty}
 use Rattle.model.specs.Items.{Item}
 use Rattle.model.specs.Cells.{Cell}
-use Rattle.model.specs.Lists.{place, stands, every}
-use Rattle.model.specs.Participants.{members, participants_of, every_member}
-use Rattle.model.specs.Messages.{Body, Message, prepare, voted, finish, inquiry, reply, query, settled}
+use Rattle.model.specs.Lists.{place}
+use Rattle.model.specs.Messages.{Message, settled}
 use Rattle.model.specs.Answers.{Answer}
-use Rattle.model.specs.Journal.{Entry, Journal, tid_of, has_entry, entry_of, is_empty, oldest, past, no_entry}
-use Rattle.model.specs.Writes.{Stores, Write, applied_all}
-use Rattle.model.specs.Node.{Node, Doubt, Unresolved, Volatile, journal_of, cells_of, is_unresolved, unresolved_of, unresolved_tid, no_unresolved, powerless}
-use Rattle.model.specs.Cluster.{Cluster, node_at, with_node, sent}
-use Rattle.model.specs.Handling.{Effect, without_effect, sending, from, queried, is_settled, acknowledged, acknowledged_by, is_oldest, acknowledging, replied, heard, agreed_by, resolved_as, with_unresolved}
+use Rattle.model.specs.Journal.{Entry, tid_of, has_entry, entry_of, is_empty, oldest, past, no_entry}
+use Rattle.model.specs.Writes.{applied_all}
+use Rattle.model.specs.Node.{Node, Volatile, journal_of, powerless}
+use Rattle.model.specs.Cluster.{Cluster, node_at, with_node}
+use Rattle.model.specs.Handling.{Effect, without_effect, from, queried, is_settled, acknowledged, is_oldest, acknowledging}
 use Rattle.model.specs.Calls.{carried}
-use Rattle.model.specs.Deeds.{Deed, nothing, wrote, wrote_by, touched, touched_by_all, yes_after, yes_by_all}
-use Rattle.model.proofs.core.Lists.{Some, has, all_map, all_append, all_self, all_some, some_map, every_has}
+use Rattle.model.specs.Deeds.{wrote, wrote_by, touched, touched_by_all, yes_after, yes_by_all}
+use Rattle.model.proofs.core.Lists.{all_map, all_append, all_self, some_map}
 use Rattle.model.proofs.core.State as core
 use Rattle.model.proofs.core.State.{Claim, Past, State, prepares, prepares_in, says_query, says_settled, says_reply, state_with_node, has_voted_yes}
-use Rattle.model.proofs.core.Facts.{Justified, Known, Settled, Ended, Extends, all_justified_stays}
+use Rattle.model.proofs.core.Facts.{Justified, Settled, Extends, all_justified_stays}
 use Rattle.model.proofs.core.Memories.{Invariant}
 use Rattle.model.proofs.core.KeptEntries.{kept, kept_extends}
 use Rattle.model.proofs.core.Writes.{nothing_written}
-use Rattle.model.proofs.core.Justify.{query_settled, reply_no_known, replies_yes_known}
-use Rattle.model.proofs.bridge.Tests.{stands_some, some_stands, found_is, found_all}
+use Rattle.model.proofs.core.Justify.{query_settled}
+use Rattle.model.proofs.bridge.Tests.{some_stands}
 use Rattle.model.proofs.bridge.ItemBook.{item_book}
 use Rattle.model.proofs.bridge.SerialMemories.{logged_entry}
 use Rattle.model.proofs.bridge.WritesSeen.{TidsDistinct}
 use Rattle.model.proofs.bridge.WriteSteps.{tids_distinct}
-use Rattle.model.proofs.bridge.Abstraction.{Touched, cluster_seen, node_seen, entry_seen, entries_seen, claim_of}
-use Rattle.model.proofs.bridge.Tables.{EntryCopies, Open, NodeFits, UnresolvedFits, MessageFits, node_stays, messages_stay, tables_stay}
+use Rattle.model.proofs.bridge.Abstraction.{Touched, cluster_seen, node_seen, entries_seen, claim_of}
+use Rattle.model.proofs.bridge.Tables.{NodeFits, MessageFits, node_stays, messages_stay}
 use Rattle.model.proofs.bridge.Sound.{Sound, Step, agreed}
 use Rattle.model.proofs.bridge.NodeSteps.{step_node, step_then, step_writes_none, wrote_others, wrote_here}
 use Rattle.model.proofs.bridge.Talk.{step_sends}
-use Rattle.model.proofs.bridge.Collect.{sent_nothing, done_node, step_carried}
+use Rattle.model.proofs.bridge.Collect.{step_carried}
 
 -- among distinct tids, what holds of the first entry of a tid holds of each
 found_first : {p : ℕ} (tid : ℕ) (es : List Entry) → TidsDistinct es → (get_or es (place tid_of tid es) no_entry).running ≤ p → All (λ (e : Entry). e.tid ≡ tid → e.running ≤ p) es

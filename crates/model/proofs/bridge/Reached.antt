@@ -1,19 +1,16 @@
 -- Along a history: from a sound beginning every moment is sound, and each knows what the earlier ones knew.
-use Rattle.std.proofs.Common.{◌≡◌, ℕ, zero, suc, ◌+◌, ◌<◌, ◌≤◌, Bool, true, false, List, [], ◌∷◌, ◌++◌, map, length, get_or, drop, sym, refl, ap, ◌∙◌, subst, arith}
+use Rattle.std.proofs.Common.{◌≡◌, ℕ, zero, suc, List, [], ◌∷◌, map, drop, refl, ap, ◌∙◌}
 use Rattle.model.specs.Items.{Item}
 use Rattle.model.specs.Cells.{Cell}
 use Rattle.model.specs.Writes.{Stores}
-use Rattle.model.specs.Cluster.{Cluster}
-use Rattle.model.specs.Calls.{step}
 use Rattle.model.specs.Deeds.{yes_after}
 use Rattle.model.specs.History.{Event, following, deed_after, written_since, yes_log, LeftBy, Fed}
-use Rattle.model.proofs.core.State as core
 use Rattle.model.proofs.core.State.{Past, State}
 use Rattle.model.proofs.core.Facts.{Extends, extends_refl, extends_trans}
 use Rattle.model.proofs.bridge.ItemBook.{item_book}
 use Rattle.model.proofs.bridge.SerialMemories.{Within, logged_entry}
 use Rattle.model.proofs.bridge.Abstraction.{cluster_seen}
-use Rattle.model.proofs.bridge.Sound.{Sound, Step}
+use Rattle.model.proofs.bridge.Sound.{Sound}
 use Rattle.model.proofs.bridge.Histories.{HasItems, step_steps}
 
 module _ (items : ℕ → List Item) (sizes : ℕ → ℕ) (count : ℕ) (within : (n : ℕ) → Within sizes count (items n)) (made : List Stores) where

@@ -1,38 +1,36 @@
 -- The call resume: a recovering node replays its journal and is up.
-use Rattle.std.proofs.Common.{◌≡◌, ℕ, zero, suc, ◌+◌, ◌-◌, ◌<◌, ◌≤◌, Bool, true, false, cond, not, ◌&&◌, ◌||◌, eqb, ltb, leb, ◌⊎◌, List, [], ◌∷◌, ◌++◌, map, length, get_or, take, is_some, Some as SomeOf, None, Option, unwrap_or, sym, refl, ap, ◌∙◌, subst, ap₂, inl, inr, ⊎_elim, arith}
+use Rattle.std.proofs.Common.{◌≡◌, ℕ, ◌<◌, Bool, true, false, cond, not, ltb, List, [], ◌∷◌, ◌++◌, map, length, take, is_some, Some as SomeOf, None, Option, unwrap_or, sym, refl, ap, ◌∙◌, subst, ap₂, arith}
 use Rattle.std.specs.List.{AllByRecursion as All}
-use Rattle.std.proofs.lemmas.Bool.{both_ways, not-false, lt-ltb}
+use Rattle.std.proofs.lemmas.Bool.{not-false, lt-ltb}
 use Rattle.std.proofs.lemmas.List.{map-append, take-map}
 use Rattle.model.specs.declared.outcome.Outcome.{Outcome}
-use Rattle.model.specs.declared.condition.Condition.{Condition}
-use Rattle.model.specs.declared.condition.Condition.TheVariants.{Up, Down, Recovering}
+use Rattle.model.specs.declared.condition.Condition.TheVariants.{Up, Recovering}
 use Rattle.model.specs.Items.{Item}
 use Rattle.model.specs.Numbers.{most_nodes}
 use Rattle.model.specs.Cells.{Cell}
-use Rattle.model.specs.Lists.{stands, place, some, joined_by}
+use Rattle.model.specs.Lists.{joined_by}
 use Rattle.model.specs.Ranges.{items_at, writes_in, is_write}
 use Rattle.model.specs.Answers.{Answer}
-use Rattle.model.specs.Journal.{Entry, Journal, past}
-use Rattle.model.specs.Writes.{Stores, Write, note, put, applied, applied_all}
-use Rattle.model.specs.Node.{Node, Unresolved, Volatile, journal_of, cells_of, nothing_but, unresolved_tid, unresolved_of, no_unresolved, some_unresolved, is_open, powerless}
-use Rattle.model.specs.Cluster.{Cluster, node_at, with_node, sent}
-use Rattle.model.specs.Handling.{Effect, resuming, replay_entry, replay_as, puts_if, resolution_of}
+use Rattle.model.specs.Journal.{Entry}
+use Rattle.model.specs.Writes.{Write, put, applied_all}
+use Rattle.model.specs.Node.{Node, Unresolved, Volatile, journal_of, cells_of, unresolved_tid, unresolved_of, no_unresolved, some_unresolved, is_open, powerless}
+use Rattle.model.specs.Cluster.{Cluster, node_at, with_node}
+use Rattle.model.specs.Handling.{resuming, replay_entry, replay_as, puts_if, resolution_of}
 use Rattle.model.specs.Calls.{carried}
-use Rattle.model.specs.Deeds.{Deed, wrote, wrote_by, touched, yes_after}
+use Rattle.model.specs.Deeds.{wrote, wrote_by, touched}
 use Rattle.model.proofs.core.Lists.{Some, all_map, all_two, all_append, all_take, all_some}
 use Rattle.model.proofs.core.State as core
 use Rattle.model.proofs.core.State.{Past, State, absent, present, state_with_node, in_condition, up, write_all, write_items}
-use Rattle.model.proofs.core.Facts.{Known, OutcomeRight, EntryRight, Extends}
-use Rattle.model.proofs.core.Memories.{Invariant}
+use Rattle.model.proofs.core.Facts.{Known, OutcomeRight, EntryRight}
 use Rattle.model.proofs.core.Writes.{Allowed}
 use Rattle.model.proofs.core.Resume.{of_tid, is_absent, redo, redo_all, resume_writes, resume_allowed, resumed_node, resumed, resumed_extends, resumed_outcomes}
-use Rattle.model.proofs.bridge.Tests.{stands_some, some_none, found_is, found_all, only_all, only_passes}
+use Rattle.model.proofs.bridge.Tests.{some_none, found_is, found_all, only_all, only_passes}
 use Rattle.model.proofs.bridge.ItemEffects.{Fits, item_effect}
 use Rattle.model.proofs.bridge.ItemBook.{item_book}
 use Rattle.model.proofs.bridge.SerialMemories.{Within, within_at, logged_entry}
 use Rattle.model.proofs.bridge.WritesSeen.{Seen, write_seen, writes_length}
-use Rattle.model.proofs.bridge.Abstraction.{Touched, cluster_seen, node_seen, stores_seen, entry_seen, entries_seen, outcome_seen}
-use Rattle.model.proofs.bridge.Tables.{EntryCopies, Open, NodeFits, UnresolvedFits}
+use Rattle.model.proofs.bridge.Abstraction.{Touched, cluster_seen, node_seen, entry_seen, entries_seen, outcome_seen}
+use Rattle.model.proofs.bridge.Tables.{EntryCopies, NodeFits, UnresolvedFits}
 use Rattle.model.proofs.bridge.Sound.{Sound, Step, agreed}
 use Rattle.model.proofs.bridge.NodeSteps.{step_node, no_bits, wrote_others}
 use Rattle.model.proofs.bridge.WriteSteps.{seen_no_yes, writes_here, entries_kept, step_torn}

@@ -1,20 +1,19 @@
 -- The serial run of the rules is the core's: its order, what it leaves in the memories, what it compares and reads.
-use Rattle.std.proofs.Common.{◌≡◌, ℕ, zero, suc, ◌+◌, ◌-◌, ◌<◌, ◌≤◌, Bool, true, false, cond, not, ◌&&◌, ◌||◌, eqb, ltb, leb, ◌⊎◌, List, [], ◌∷◌, ◌++◌, map, length, get_or, set, sym, refl, ap, ◌∙◌, subst, ap₂, inl, inr, ⊎_elim, arith}
+use Rattle.std.proofs.Common.{◌≡◌, ℕ, zero, suc, ◌<◌, ◌≤◌, Bool, true, false, cond, ◌||◌, eqb, ◌⊎◌, List, [], ◌∷◌, ◌++◌, map, length, get_or, set, sym, refl, ap, ◌∙◌, subst, inl, inr, arith}
 use Rattle.std.specs.List.{AllByRecursion as All}
-use Rattle.std.proofs.lemmas.Bool.{cases_eq, cases_Bool, cases_lt, both_ways, eq-eqb, ne_eqb, eqb-true}
+use Rattle.std.proofs.lemmas.Bool.{cases_eq, cases_lt, both_ways, eq-eqb, ne_eqb, eqb-true}
 use Rattle.std.proofs.lemmas.List.{get_or-set_same, get_or-set_other, length-set}
 use Rattle.model.specs.Items.{Item, compare, read, write}
-use Rattle.model.specs.ItemFormat.{span}
 use Rattle.model.specs.Numbers.{most_nodes}
-use Rattle.model.specs.Lists.{some, every, only, joined_by}
-use Rattle.model.specs.Cells.{Cell, no_cell}
-use Rattle.model.specs.Ranges.{node_of, address_of, is_write, items_at, writes_in, holds, read_items, put_item, put_items}
+use Rattle.model.specs.Lists.{some, only}
+use Rattle.model.specs.Cells.{Cell}
+use Rattle.model.specs.Ranges.{node_of, is_write, items_at, writes_in, put_item, put_items}
 use Rattle.model.specs.Participants.{includes, members_below, members, is_named, participants_of}
 use Rattle.model.specs.Deeds as deeds
-use Rattle.model.specs.SerialRun.{Memories, memory_at, compares_true, reads_all, writes_all, voted_yes, is_committed, turns, memories_after}
-use Rattle.model.proofs.core.Lists.{Some, has, all_map, all_two, all_some, some_map, every_same, not_so}
-use Rattle.model.proofs.core.State.{Effect, keep, put, applied, puts, followed, together, Book, Yes, logged, committed, serial_run, after, effect}
-use Rattle.model.proofs.bridge.Tests.{some_found, some_none, some_from, only_passes, only_all, only_some, every_all}
+use Rattle.model.specs.SerialRun.{Memories, memory_at, writes_all, voted_yes, is_committed, turns, memories_after}
+use Rattle.model.proofs.core.Lists.{has, all_two, all_some, every_same, not_so}
+use Rattle.model.proofs.core.State.{Effect, keep, put, applied, followed, together, Book, Yes, logged, committed, serial_run, after, effect}
+use Rattle.model.proofs.bridge.Tests.{some_found, some_none, only_passes, only_all}
 use Rattle.model.proofs.bridge.ItemEffects.{cell_at, Fits, item_effect, put_cell, length_put}
 use Rattle.model.proofs.bridge.ItemBook.{item_book, participant_named, has_append, members_below_lem}
 

@@ -1,20 +1,20 @@
 -- What a committed minitransaction finds when its turn in the serial run comes: its comparisons true, and what its nodes read.
-use Rattle.std.proofs.Common.{◌≡◌, ℕ, zero, suc, ◌+◌, ◌-◌, ◌<◌, ◌≤◌, Bool, true, false, cond, not, ◌&&◌, ◌||◌, eqb, ◌⊎◌, List, [], ◌∷◌, ◌++◌, map, length, Some as SomeOf, None, Option, sym, refl, ap, ◌∙◌, subst, ap₂, inl, inr, ⊎_elim, arith}
+use Rattle.std.proofs.Common.{◌≡◌, ℕ, Bool, true, cond, eqb, ◌⊎◌, List, [], ◌∷◌, length, Some as SomeOf, sym, refl, ap, ◌∙◌, subst, ap₂, inl, inr, arith}
 use Rattle.std.specs.List.{AllByRecursion as All}
-use Rattle.std.proofs.lemmas.Bool.{cases_eq, eq-eqb, ne_eqb, eqb-true, and_from, or_right}
+use Rattle.std.proofs.lemmas.Bool.{cases_eq, eq-eqb, ne_eqb, and_from, or_right}
 use Rattle.model.specs.Items.{Item}
-use Rattle.model.specs.Lists.{some, every, only, joined_by}
-use Rattle.model.specs.Cells.{Cell, no_cell}
+use Rattle.model.specs.Lists.{every, joined_by}
+use Rattle.model.specs.Cells.{Cell}
 use Rattle.model.specs.Ranges.{node_of, items_at, holds, read_items}
-use Rattle.model.specs.Participants.{members, is_named, participants_of}
+use Rattle.model.specs.Participants.{members, participants_of}
 use Rattle.model.specs.SerialRun.{Memories, memory_at, compares_true, reads_all, memories_after, Turn, turn_of}
 use Rattle.model.proofs.core.Lists.{Some, has, all_map, all_two, all_some, all_self, some_map}
 use Rattle.model.proofs.core.State.{Book, State, after, saw_at}
 use Rattle.model.proofs.core.Memories.{Invariant}
 use Rattle.model.proofs.core.Laws.{SerialFits}
 use Rattle.model.proofs.bridge.Tests.{some_from, every_all, only_some}
-use Rattle.model.proofs.bridge.ItemEffects.{cell_at, Fits, holds_of, holds_cells, holds_alike, Alike, items_read, reads_cells, reads_alike, joined_by_alike}
-use Rattle.model.proofs.bridge.ItemBook.{item_book, looks_at, items_alike}
+use Rattle.model.proofs.bridge.ItemEffects.{cell_at, Fits, holds_of, holds_cells, holds_alike, items_read, reads_cells, reads_alike, joined_by_alike}
+use Rattle.model.proofs.bridge.ItemBook.{item_book, items_alike}
 use Rattle.model.proofs.bridge.SerialMemories.{Within, within_at, Sized, has_participant, made_cells, memories_sized, memories_after_lem}
 
 every_true : {X : Type 0} (t : X → Bool) (xs : List X) → All (λ x. t x ≡ true) xs → every t xs ≡ true

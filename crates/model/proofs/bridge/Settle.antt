@@ -1,24 +1,23 @@
 -- The call settle: a checkpoint of one node.
-use Rattle.std.proofs.Common.{◌≡◌, ℕ, zero, suc, ◌+◌, ◌-◌, ◌<◌, ◌≤◌, Bool, true, false, cond, not, ◌&&◌, ◌||◌, eqb, ltb, leb, ◌⊎◌, List, [], ◌∷◌, ◌++◌, map, length, get_or, take, Some as SomeOf, None, Option, sym, refl, ap, ◌∙◌, subst, ap₂, inl, inr, ⊎_elim, arith}
+use Rattle.std.proofs.Common.{◌≡◌, ℕ, zero, suc, ◌<◌, Bool, true, false, eqb, List, [], ◌∷◌, map, length, get_or, take, Some as SomeOf, None, Option, sym, refl, ap, ◌∙◌, subst, ap₂, inl, inr, arith}
 use Rattle.std.specs.List.{AllByRecursion as All}
 use Rattle.std.specs.Option.{option_map}
 use Rattle.std.proofs.lemmas.Bool.{both_ways}
 use Rattle.std.proofs.lemmas.List.{length-map}
 use Rattle.model.specs.declared.outcome.Outcome.{Outcome}
-use Rattle.model.specs.declared.condition.Condition.{Condition}
-use Rattle.model.specs.declared.condition.Condition.TheVariants.{Up, Down, Recovering}
+use Rattle.model.specs.declared.condition.Condition.TheVariants.{Up, Recovering}
 use Rattle.model.specs.Items.{Item}
 use Rattle.model.specs.Cells.{Cell}
 use Rattle.model.specs.Lists.{stands}
 use Rattle.model.specs.Answers.{Answer}
-use Rattle.model.specs.Journal.{Entry, Journal, is_empty, oldest, no_entry, made_durable, durably, is_forced, with_outcome}
-use Rattle.model.specs.Writes.{Stores, Write, flush_memory, flush_journal, point, applied, applied_all}
-use Rattle.model.specs.Node.{Node, Doubt, Volatile, journal_of, cells_of, is_in_doubt, doubt_tid, powerless}
-use Rattle.model.specs.Cluster.{Cluster, node_at, with_node, sent}
-use Rattle.model.specs.Handling.{Effect, settling, checkpoint_of}
+use Rattle.model.specs.Journal.{Entry, no_entry, made_durable, durably, is_forced, with_outcome}
+use Rattle.model.specs.Writes.{Stores, Write, flush_memory, flush_journal, applied_all}
+use Rattle.model.specs.Node.{Node, Volatile, is_in_doubt, doubt_tid, powerless}
+use Rattle.model.specs.Cluster.{Cluster, node_at, with_node}
+use Rattle.model.specs.Handling.{settling, checkpoint_of}
 use Rattle.model.specs.Calls.{carried}
-use Rattle.model.specs.Deeds.{Deed, wrote, wrote_by, touched, touched_by_all, yes_after, yes_by_all}
-use Rattle.model.proofs.core.Lists.{Some, all_map, all_some, all_self, some_map}
+use Rattle.model.specs.Deeds.{wrote, wrote_by, touched, touched_by_all, yes_after, yes_by_all}
+use Rattle.model.proofs.core.Lists.{all_map, all_some, all_self, some_map}
 use Rattle.model.proofs.core.State as core
 use Rattle.model.proofs.core.State.{Past, State, absent, present, state_with_node, outcomes, says_settled, up, write_all}
 use Rattle.model.proofs.core.Facts.{Justified, Extends}
@@ -31,7 +30,7 @@ use Rattle.model.proofs.bridge.ItemEffects.{cell_at}
 use Rattle.model.proofs.bridge.ItemBook.{item_book}
 use Rattle.model.proofs.bridge.SerialMemories.{logged_entry}
 use Rattle.model.proofs.bridge.WritesSeen.{flushed_entries}
-use Rattle.model.proofs.bridge.Abstraction.{Touched, cluster_seen, node_seen, entry_seen, entries_seen, outcome_seen, condition_seen}
+use Rattle.model.proofs.bridge.Abstraction.{Touched, cluster_seen, node_seen, entries_seen, outcome_seen, condition_seen}
 use Rattle.model.proofs.bridge.Tables.{EntryCopies, Open, NodeFits, node_stays}
 use Rattle.model.proofs.bridge.Sound.{Sound, Step}
 use Rattle.model.proofs.bridge.NodeSteps.{step_node, step_node_down, wrote_others, wrote_here}

@@ -1,28 +1,25 @@
 -- The invariant of the plain cluster: the core's, and its tables tied to it. What a step of the cluster keeps.
-use Rattle.std.proofs.Common.{◌≡◌, ℕ, zero, suc, ◌+◌, ◌-◌, ◌<◌, ◌≤◌, Bool, true, false, cond, not, ◌&&◌, ◌||◌, ◌⊎◌, List, [], ◌∷◌, ◌++◌, map, length, get_or, Some as SomeOf, None, Option, sym, refl, ap, ◌∙◌, subst, inl, inr, ⊎_elim, arith}
+use Rattle.std.proofs.Common.{◌≡◌, ℕ, zero, suc, ◌<◌, List, [], ◌∷◌, map, length, get_or, Some as SomeOf, None, Option, sym, refl, ap, ◌∙◌, subst}
 use Rattle.std.specs.List.{remove, AllByRecursion as All}
 use Rattle.model.specs.declared.refusal.Refusal.{Refusal}
 use Rattle.model.specs.Items.{Item}
 use Rattle.model.specs.Cells.{Cell}
-use Rattle.model.specs.Messages.{Message}
-use Rattle.model.specs.Answers.{Answer}
 use Rattle.model.specs.Lists.{place}
 use Rattle.model.specs.Node.{Node, no_node}
-use Rattle.model.specs.Cluster.{Cluster, Coordinator, Recovery, node_at, with_network, with_coordinators, with_recoveries, sent, coordinator_tid, recovery_number}
-use Rattle.model.specs.Calls.{Result, answered, first_of, without_message, without_coordinator, without_recovery}
-use Rattle.model.specs.Deeds as deeds
+use Rattle.model.specs.Cluster.{Cluster, Coordinator, node_at, with_coordinators, coordinator_tid}
+use Rattle.model.specs.Calls.{Result, answered, without_message, without_coordinator}
 use Rattle.model.specs.Deeds.{Deed, nothing, touched, yes_after, unless}
-use Rattle.model.proofs.core.Lists.{all_map, all_append, without}
+use Rattle.model.proofs.core.Lists.{without}
 use Rattle.model.proofs.core.State as core
 use Rattle.model.proofs.core.State.{Claim, Past, State, prepares, state_with_network}
 use Rattle.model.proofs.core.Facts.{Justified, Extends, extends_refl, extends_trans}
 use Rattle.model.proofs.core.Agreement.{Agreement}
 use Rattle.model.proofs.core.Memories.{Invariant}
-use Rattle.model.proofs.core.NetworkChange.{NetworkChange, leaving, sending}
+use Rattle.model.proofs.core.NetworkChange.{NetworkChange, leaving}
 use Rattle.model.proofs.core.Moves.{network_changed, network_extends}
 use Rattle.model.proofs.bridge.ItemBook.{item_book}
-use Rattle.model.proofs.bridge.SerialMemories.{Within, logged_entry}
-use Rattle.model.proofs.bridge.Abstraction.{Touched, cluster_seen, claim_of, seen_sent, seen_removed}
+use Rattle.model.proofs.bridge.SerialMemories.{logged_entry}
+use Rattle.model.proofs.bridge.Abstraction.{Touched, cluster_seen, claim_of, seen_removed}
 use Rattle.model.proofs.bridge.Tables.{CoordinatorFits, RecoveryFits, MessageFits, NodeFits, Tables, tables_stay, node_stays}
 
 -- all-without for a removal of the rules

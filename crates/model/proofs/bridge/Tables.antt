@@ -1,18 +1,17 @@
 -- What ties the tables and copies of the plain cluster to the core: coordinators, recoveries, messages, and each node's own.
-use Rattle.std.proofs.Common.{◌≡◌, ℕ, zero, suc, ◌+◌, ◌-◌, ◌<◌, ◌≤◌, Bool, true, false, cond, not, ◌&&◌, ◌||◌, eqb, ltb, leb, ◌⊎◌, List, [], ◌∷◌, ◌++◌, map, length, get_or, Some as SomeOf, None, Option, sym, refl, ap, ◌∙◌, subst, inl, inr, ⊎_elim, arith}
+use Rattle.std.proofs.Common.{◌≡◌, ℕ, ◌<◌, ◌≤◌, Bool, true, false, List, [], ◌∷◌, map, length, get_or, Some as SomeOf, None, sym, ap, ◌∙◌, subst}
 use Rattle.std.specs.List.{AllByRecursion as All}
-use Rattle.model.specs.declared.condition.Condition.{Condition}
-use Rattle.model.specs.declared.condition.Condition.TheVariants.{Up, Down, Recovering}
+use Rattle.model.specs.declared.condition.Condition.TheVariants.{Up, Recovering}
 use Rattle.model.specs.declared.party.Party.{Party}
 use Rattle.model.specs.declared.party.Party.TheVariants.{Node as NodeParty, Coordinator as CoordinatorParty, Recovery as RecoveryParty}
 use Rattle.model.specs.declared.vote.Vote.{Vote}
 use Rattle.model.specs.Items.{Item}
-use Rattle.model.specs.Cells.{Cell, no_cell}
+use Rattle.model.specs.Cells.{Cell}
 use Rattle.model.specs.Ranges.{items_at, writes_in}
 use Rattle.model.specs.Participants.{participants_of}
 use Rattle.model.specs.Messages.{Body, Message, prepare, voted, finish, inquiry, reply, query, settled}
 use Rattle.model.specs.Journal.{Entry, Journal, is_empty, oldest}
-use Rattle.model.specs.Node.{Node, Doubt, Unresolved, Volatile, cells_of, journal_of, is_in_doubt, is_open}
+use Rattle.model.specs.Node.{Node, Doubt, Unresolved, cells_of, journal_of, is_open}
 use Rattle.model.specs.Cluster.{Cluster, Coordinator, Recovery, node_at, is_yes}
 use Rattle.model.proofs.core.Lists.{Some, Pairs, all_map}
 use Rattle.model.proofs.core.State as core

@@ -1,5 +1,5 @@
 -- Calls that send messages and change the tables of coordinators and recoveries: leave, decide, rule, stop, recover, inquire, query.
-use Rattle.std.proofs.Common.{◌≡◌, ℕ, zero, suc, ◌+◌, ◌-◌, ◌<◌, ◌≤◌, Bool, true, false, cond, not, ◌&&◌, ◌||◌, eqb, ltb, leb, ◌⊎◌, List, [], ◌∷◌, ◌++◌, map, length, get_or, is_some, Some as SomeOf, None, Option, unwrap_or, sym, refl, ap, ◌∙◌, subst, inl, inr, ⊎_elim, arith}
+use Rattle.std.proofs.Common.{◌≡◌, ℕ, ◌+◌, Bool, true, false, eqb, List, [], ◌∷◌, ◌++◌, map, get_or, is_some, Some as SomeOf, None, Option, unwrap_or, sym, refl, ap, ◌∙◌, subst, arith}
 use Rattle.std.specs.List.{remove, AllByRecursion as All}
 use Rattle.std.proofs.lemmas.Bool.{both_ways, eq-eqb, or_right}
 use Rattle.std.proofs.lemmas.List.{map-append}
@@ -9,15 +9,14 @@ use Rattle.model.specs.declared.vote.Vote.{Vote}
 use Rattle.model.specs.declared.vote.Vote.TheVariants.{Busy}
 use Rattle.model.specs.Items.{Item}
 use Rattle.model.specs.Cells.{Cell}
-use Rattle.model.specs.Lists.{place, stands, every, joined_by}
+use Rattle.model.specs.Lists.{place, joined_by}
 use Rattle.model.specs.Ranges.{items_at}
 use Rattle.model.specs.Participants.{members, participants_of, every_member}
 use Rattle.model.specs.Messages.{Body, Message, prepare, voted, finish, inquiry, reply, query, settled}
-use Rattle.model.specs.Journal.{Entry, Journal}
-use Rattle.model.specs.Cluster.{Cluster, Coordinator, Recovery, node_at, sent, to_each, with_network, with_coordinators, with_recoveries, coordinator_tid, has_coordinator, coordinator_of, no_coordinator, has_voted, vote_from, is_yes, all_voted, decision, reads_of, recovery_number, has_recovery, recovery_of, no_recovery, has_replied, all_replied, ruling, new_recovery}
-use Rattle.model.specs.Calls.{finish_to, inquiry_to, query_to, without_coordinator, without_recovery, deciding, ruling_of}
-use Rattle.model.specs.Deeds.{Deed, nothing}
-use Rattle.model.proofs.core.Lists.{Some, has, all_map, all_each, all_append, every_has, without}
+use Rattle.model.specs.Cluster.{Cluster, Coordinator, Recovery, node_at, to_each, coordinator_tid, has_coordinator, coordinator_of, no_coordinator, has_voted, vote_from, is_yes, all_voted, decision, reads_of, recovery_number, has_recovery, recovery_of, no_recovery, has_replied, all_replied, ruling}
+use Rattle.model.specs.Calls.{finish_to, without_recovery, deciding, ruling_of}
+use Rattle.model.specs.Deeds.{nothing}
+use Rattle.model.proofs.core.Lists.{has, all_map, all_each, all_append, every_has}
 use Rattle.model.proofs.core.State as core
 use Rattle.model.proofs.core.State.{Claim, says_vote, says_reply, says_finish, Past, State, saw_at, prepares, prepares_in, state_with_network}
 use Rattle.model.proofs.core.Facts.{Justified, Known, Extends, extends_refl}
@@ -28,8 +27,8 @@ use Rattle.model.proofs.bridge.ItemEffects.{items_read, joined_by_alike}
 use Rattle.model.proofs.bridge.ItemBook.{item_book}
 use Rattle.model.proofs.bridge.SerialTurns.{reads_by_node}
 use Rattle.model.proofs.bridge.Abstraction.{Touched, cluster_seen, node_seen, claim_of}
-use Rattle.model.proofs.bridge.Tables.{AboutRecovery, BodyFits, CoordinatorFits, RecoveryFits, MessageFits, NodeFits, Tables, coordinator_stays, recovery_stays, messages_stay}
-use Rattle.model.proofs.bridge.Sound.{Sound, Step, step_network, network_extended, step_nothing, step_coordinators, agreed, claims_justified, all_removed}
+use Rattle.model.proofs.bridge.Tables.{AboutRecovery, BodyFits, CoordinatorFits, RecoveryFits, MessageFits, coordinator_stays, recovery_stays, messages_stay}
+use Rattle.model.proofs.bridge.Sound.{Sound, Step, step_network, network_extended, agreed, claims_justified, all_removed}
 
 -- ## Messages to each participant
 

@@ -1,9 +1,9 @@
 -- The tests and the search of the rules, as facts of every or of some element.
-use Rattle.std.proofs.Common.{◌≡◌, ℕ, zero, suc, ◌+◌, ◌<◌, ◌≤◌, Bool, true, false, cond, ◌&&◌, ◌||◌, eqb, ltb, ◌⊎◌, List, [], ◌∷◌, ◌++◌, length, get_or, set, sym, refl, ap, ◌∙◌, subst, inl, inr, ⊎_elim, arith}
+use Rattle.std.proofs.Common.{◌≡◌, ℕ, suc, Bool, true, false, cond, eqb, ltb, ◌⊎◌, List, [], ◌∷◌, length, get_or, refl, inl, inr, ⊎_elim, arith}
 use Rattle.std.specs.List.{AllByRecursion as All}
-use Rattle.std.proofs.lemmas.Bool.{cases_eq, cases_Bool, both_ways, eq-eqb, ne_eqb, eqb-true, and_parts, or_cases, or_parts, or_left, or_right, ltb-true, ltb-false, lt-ltb}
+use Rattle.std.proofs.lemmas.Bool.{cases_eq, both_ways, eq-eqb, ne_eqb, and_parts, or_cases, or_parts, or_left, or_right, ltb-true, lt-ltb}
 use Rattle.model.specs.Lists.{some, every, only, place, stands}
-use Rattle.model.proofs.core.Lists.{Some, all_map}
+use Rattle.model.proofs.core.Lists.{Some}
 
 -- ## some, every, only
 

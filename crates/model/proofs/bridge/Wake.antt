@@ -1,34 +1,31 @@
 -- The call wake: a node has power again, with what the loss of power left.
-use Rattle.std.proofs.Common.{◌≡◌, ℕ, zero, suc, ◌+◌, ◌-◌, ◌^◌, ◌<◌, ◌≤◌, Bool, true, false, cond, not, ◌&&◌, ◌||◌, eqb, ltb, leb, ◌⊎◌, List, [], ◌∷◌, ◌++◌, map, length, get_or, is_some, Some as SomeOf, None, Option, sym, refl, ap, ◌∙◌, subst, ap₂, inl, inr, ⊎_elim, arith}
+use Rattle.std.proofs.Common.{◌≡◌, ℕ, zero, suc, ◌^◌, ◌<◌, Bool, true, false, cond, not, eqb, List, [], ◌∷◌, map, length, get_or, is_some, Some as SomeOf, None, Option, sym, refl, ap, ◌∙◌, subst, ap₂, inl, inr, ⊎_elim, arith}
 use Rattle.std.specs.List.{AllByRecursion as All}
 use Rattle.std.specs.Option.{option_map}
 use Rattle.std.proofs.lemmas.Bool.{both_ways, and_parts, eq-eqb, ne_eqb, eqb-true, ltb-true, or_cases}
 use Rattle.model.specs.declared.outcome.Outcome.{Outcome}
-use Rattle.model.specs.declared.condition.Condition.{Condition}
-use Rattle.model.specs.declared.condition.Condition.TheVariants.{Up, Down, Recovering}
+use Rattle.model.specs.declared.condition.Condition.TheVariants.{Up, Recovering}
 use Rattle.model.specs.Items.{Item}
 use Rattle.model.specs.Numbers.{most_nodes}
 use Rattle.model.specs.Cells.{Cell}
 use Rattle.model.specs.Lists.{place, only}
-use Rattle.model.specs.Participants.{members_below, members, participants_of, alone}
+use Rattle.model.specs.Participants.{members_below, members, alone}
 use Rattle.model.specs.Journal.{Entry, Journal, tid_of, no_entry, with_outcome, durably, outcomes_left, restarted, past, is_forced}
-use Rattle.model.specs.Node.{Node, Unresolved, Left, journal_of, cells_of, is_open, found, unresolved_in, recovering, of_none}
+use Rattle.model.specs.Node.{Node, Unresolved, Left, journal_of, is_open, found, recovering}
 use Rattle.model.specs.Cluster.{Cluster, node_at, with_node}
-use Rattle.model.specs.Deeds.{Deed, woke, touched, yes_after}
+use Rattle.model.specs.Deeds.{woke, touched}
 use Rattle.model.specs.History.{OutcomeLeft, OutcomesLeft, LeftOf}
 use Rattle.model.proofs.core.Lists.{Some, has, all_map, all_two, all_self, some_map}
 use Rattle.model.proofs.core.State as core
 use Rattle.model.proofs.core.State.{Past, State, absent, present, state_with_node, outcomes, entry_with_outcome}
 use Rattle.model.proofs.core.Facts.{Known, Extends, known_stays}
-use Rattle.model.proofs.core.Agreement.{Durable}
-use Rattle.model.proofs.core.Memories.{Invariant}
 use Rattle.model.proofs.core.Restart as restart
 use Rattle.model.proofs.core.Restart.{LeftOver, restarted_node, restarted_extends}
 use Rattle.model.proofs.core.Justify.{replies_yes_known}
 use Rattle.model.proofs.bridge.Tests.{only_all, only_passes, only_some}
 use Rattle.model.proofs.bridge.ItemEffects.{cell_at}
 use Rattle.model.proofs.bridge.ItemBook.{item_book}
-use Rattle.model.proofs.bridge.SerialMemories.{Within, logged_entry}
+use Rattle.model.proofs.bridge.SerialMemories.{Within}
 use Rattle.model.proofs.bridge.WritesSeen.{TidsDistinct}
 use Rattle.model.proofs.bridge.Abstraction.{Touched, cluster_seen, node_seen, entry_seen, entries_seen, outcome_seen}
 use Rattle.model.proofs.bridge.Tables.{EntryCopies, NodeFits, UnresolvedFits}

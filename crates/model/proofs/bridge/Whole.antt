@@ -1,5 +1,5 @@
 -- A whole history of a cluster that was made well: its book, and that every moment of it is sound.
-use Rattle.std.proofs.Common.{◌≡◌, ℕ, zero, suc, ◌+◌, ◌<◌, ◌≤◌, Bool, true, false, leb, ◌⊎◌, List, [], ◌∷◌, ◌++◌, map, length, get_or, sym, refl, ap, ◌∙◌, subst, inl, inr, arith}
+use Rattle.std.proofs.Common.{◌≡◌, ℕ, zero, suc, ◌≤◌, true, leb, List, [], ◌∷◌, length, get_or, refl, ◌∙◌}
 use Rattle.std.specs.List.{AllByRecursion as All}
 use Rattle.std.proofs.lemmas.Bool.{and_parts, leb-true}
 use Rattle.model.specs.Items.{Item}
@@ -7,9 +7,9 @@ use Rattle.model.specs.Numbers.{most_nodes}
 use Rattle.model.specs.Writes.{Stores}
 use Rattle.model.specs.Node.{cells_of}
 use Rattle.model.specs.Cluster.{node_at}
-use Rattle.model.specs.Making.{making, is_well_made}
+use Rattle.model.specs.Making.{is_well_made}
 use Rattle.model.specs.Deeds.{Deed, asked, wrote, woke, nothing, asked_after}
-use Rattle.model.specs.History.{Event, History, Faithful, Fed, Answered, following, deed_after, requests, written_since, yes_log}
+use Rattle.model.specs.History.{Event, Fed, Answered, following, deed_after, requests, written_since, yes_log}
 use Rattle.model.proofs.Bounding.{kept_following}
 use Rattle.model.proofs.Keeping.{every_memory_keeps_size}
 use Rattle.model.proofs.core.Lists.{all_push}

@@ -1,6 +1,5 @@
 -- Every minitransaction that is opened lies within the memories as made.
-use Rattle.std.proofs.Common.{◌≡◌, ℕ, zero, suc, ◌+◌, ◌<◌, ◌≤◌, Bool, true, false, cond, not, ◌⊎◌, List, [], ◌∷◌, ◌++◌, length, get_or, Some as SomeOf, None, Option, sym, refl, ap, ◌∙◌, subst, inl, inr, arith}
-use Rattle.std.specs.List.{AllByRecursion as All}
+use Rattle.std.proofs.Common.{◌≡◌, ℕ, ◌+◌, ◌<◌, ◌≤◌, Bool, true, false, cond, List, length, Some as SomeOf, None, Option, refl, subst, arith}
 use Rattle.std.proofs.lemmas.Bool.{not-false, ltb-true, leb-true}
 use Rattle.model.specs.declared.party.Party.{Party}
 use Rattle.model.specs.declared.party.Party.TheVariants.{Node as NodeParty, Coordinator as CoordinatorParty, Recovery as RecoveryParty}
@@ -17,9 +16,8 @@ use Rattle.model.specs.Cluster.{Cluster, node_at, has_node}
 use Rattle.model.specs.Handling.{Reaction, lost, taken, reaction}
 use Rattle.model.specs.Calls.{Call, opens, delivers, loses, decides, leaves, recovers, rules, stops, cuts, wakes, inquires, resumes, settles, queries, collects, shows, first_of, open_refusals, message_at, without_message}
 use Rattle.model.specs.Deeds.{Deed, asked, wrote, woke, nothing, unless, deed_of, asked_for, received_by, reacted_with, deed}
-use Rattle.model.proofs.core.Lists.{all_map, all_two}
+use Rattle.model.proofs.core.Lists.{all_map}
 use Rattle.model.proofs.bridge.Tests.{some_none}
-use Rattle.model.proofs.bridge.ItemEffects.{Fits}
 use Rattle.model.proofs.bridge.SerialMemories.{Within}
 
 module _ (sizes : ℕ → ℕ) (count : ℕ) (few : count ≤ most_nodes) (c : Cluster) (number : length c.nodes ≡ count) (sized : (q : ℕ) → length (cells_of (node_at c q)) ≡ sizes q) where

@@ -1,31 +1,27 @@
 -- Durable writes at one node, whole or cut short by the loss of power, as a step of the cluster.
-use Rattle.std.proofs.Common.{◌≡◌, ℕ, zero, suc, ◌+◌, ◌-◌, ◌<◌, ◌≤◌, Bool, true, false, cond, not, ◌&&◌, ◌||◌, eqb, ltb, leb, ◌⊎◌, List, [], ◌∷◌, ◌++◌, map, length, get_or, take, set, Some as SomeOf, None, Option, sym, refl, ap, ◌∙◌, subst, inl, inr, ⊎_elim, arith}
+use Rattle.std.proofs.Common.{◌≡◌, ℕ, zero, suc, ◌<◌, Bool, true, false, cond, eqb, List, [], ◌∷◌, map, length, get_or, set, Some as SomeOf, Option, sym, refl, ap, ◌∙◌}
 use Rattle.std.specs.List.{AllByRecursion as All}
-use Rattle.std.proofs.lemmas.List.{take-map}
 use Rattle.model.specs.declared.outcome.Outcome.{Outcome}
-use Rattle.model.specs.declared.condition.Condition.{Condition}
-use Rattle.model.specs.declared.condition.Condition.TheVariants.{Up, Down, Recovering}
 use Rattle.model.specs.Items.{Item}
 use Rattle.model.specs.Cells.{Cell}
 use Rattle.model.specs.Lists.{place}
-use Rattle.model.specs.Journal.{Entry, Journal, tid_of, no_entry, with_outcome, pending, made_durable}
+use Rattle.model.specs.Journal.{Entry, tid_of, no_entry, with_outcome, pending, made_durable}
 use Rattle.model.specs.Writes.{Stores, Write, add_entry, force, note, put, flush_memory, flush_journal, point, drop_oldest, applied, applied_all}
-use Rattle.model.specs.Node.{Node, journal_of, cells_of, powerless}
+use Rattle.model.specs.Node.{powerless}
 use Rattle.model.specs.Cluster.{Cluster, node_at, with_node}
 use Rattle.model.specs.Deeds as deeds
 use Rattle.model.specs.Deeds.{Deed, wrote, touched, touched_by_all, yes_after, yes_by_all}
-use Rattle.model.proofs.core.Lists.{Some, Pairs, all_map, all_take, pairs_map}
+use Rattle.model.proofs.core.Lists.{pairs_map}
 use Rattle.model.proofs.core.State as core
 use Rattle.model.proofs.core.State.{Past, State, state_with_node, in_condition, up, down, write_all}
-use Rattle.model.proofs.core.Facts.{Extends}
-use Rattle.model.proofs.core.Memories.{Before, Invariant}
-use Rattle.model.proofs.core.KeptEntries.{KeptEntries, kept_extends}
+use Rattle.model.proofs.core.Memories.{Before}
+use Rattle.model.proofs.core.KeptEntries.{kept_extends}
 use Rattle.model.proofs.core.Writes.{Allowed, nothing_written, write_all_kept, condition_kept, torn}
 use Rattle.model.proofs.bridge.ItemBook.{item_book}
 use Rattle.model.proofs.bridge.SerialMemories.{logged_entry}
 use Rattle.model.proofs.bridge.WritesSeen.{TidsDistinct, Seen, write_seen, writes_are_seen, writes_length, distinct_from_seen}
-use Rattle.model.proofs.bridge.Abstraction.{Touched, cluster_seen, node_seen, stores_seen, entries_seen}
-use Rattle.model.proofs.bridge.Tables.{EntryCopies, NodeFits, Tables}
+use Rattle.model.proofs.bridge.Abstraction.{Touched, cluster_seen, node_seen, stores_seen}
+use Rattle.model.proofs.bridge.Tables.{EntryCopies}
 use Rattle.model.proofs.bridge.Sound.{Sound, Step}
 use Rattle.model.proofs.bridge.NodeSteps.{step_node, powerless_fits, wrote_others, wrote_here}
 

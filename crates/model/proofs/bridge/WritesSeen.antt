@@ -1,22 +1,20 @@
 -- The durable writes of the rules are writes of the core.
-use Rattle.std.proofs.Common.{◌≡◌, ℕ, zero, suc, ◌+◌, ◌-◌, ◌<◌, ◌≤◌, Bool, true, false, cond, not, ◌&&◌, ◌||◌, eqb, ltb, leb, ◌⊎◌, List, [], ◌∷◌, ◌++◌, map, length, get_or, take, set, Some as SomeOf, None, Option, sym, refl, ap, ◌∙◌, subst, ap₂, inl, inr, ⊎_elim, arith}
+use Rattle.std.proofs.Common.{◌≡◌, ℕ, suc, Bool, true, false, cond, ◌||◌, eqb, ◌⊎◌, List, [], ◌∷◌, map, length, get_or, set, Some as SomeOf, None, Option, sym, refl, ap, ◌∙◌, subst, ap₂, inl, inr}
 use mathlib.Core.Path.{fun_ext}
 use Rattle.std.specs.List.{AllByRecursion as All}
 use Rattle.std.specs.Option.{option_map}
-use Rattle.std.proofs.lemmas.Bool.{cases_eq, cases_Bool, eq-eqb, ne_eqb, both_ways, or_parts}
+use Rattle.std.proofs.lemmas.Bool.{cases_eq, eq-eqb, ne_eqb, both_ways}
 use Rattle.model.specs.declared.outcome.Outcome.{Outcome}
-use Rattle.model.specs.Items.{Item}
-use Rattle.model.specs.Lists.{place, stands, among}
-use Rattle.model.specs.Cells.{Cell, no_cell}
-use Rattle.model.specs.Ranges.{is_write, covers, put_item}
-use Rattle.model.specs.Journal.{Entry, Journal, tid_of, no_entry, entry_of, with_entries, with_outcome, pending, durably, made_durable, noted, flushed, is_forced, is_forced_full, forced_in}
+use Rattle.model.specs.Lists.{place}
+use Rattle.model.specs.Cells.{Cell}
+use Rattle.model.specs.Ranges.{is_write, covers}
+use Rattle.model.specs.Journal.{Entry, tid_of, no_entry, with_outcome, pending, durably, made_durable, is_forced}
 use Rattle.model.specs.Writes.{Stores, Write, add_entry, force, note, put, flush_memory, flush_journal, point, drop_oldest, applied, applied_all}
 use Rattle.model.specs.Deeds.{touched_by, touched_by_all}
-use Rattle.model.proofs.core.Lists.{Some, Pairs, all_map, all_take}
+use Rattle.model.proofs.core.Lists.{Pairs, all_map}
 use Rattle.model.proofs.core.State as core
 use Rattle.model.proofs.core.State.{outcomes, entry_with_outcome}
 use Rattle.model.proofs.core.Resume.{of_tid}
-use Rattle.model.proofs.bridge.Tests.{stands_some, some_stands}
 use Rattle.model.proofs.bridge.ItemEffects.{cell_at, Fits, item_effect, put_cell, length_put, covers_puts}
 use Rattle.model.proofs.bridge.Abstraction.{outcome_seen, entry_seen, entries_seen, stores_seen}
 

@@ -1,7 +1,7 @@
 -- A node that changes twice in one call changes once; power may fail after any change.
-use Rattle.std.proofs.Common.{◌≡◌, ℕ, sym, refl, ap, ◌∙◌, subst}
-use Rattle.model.proofs.core.Lists.{update, update_same, update_update}
-use Rattle.model.proofs.core.State.{Book, Node, in_condition, Condition, down, State, state_with_node}
+use Rattle.std.proofs.Common.{◌≡◌, ℕ, ap, ◌∙◌, subst}
+use Rattle.model.proofs.core.Lists.{update_same, update_update}
+use Rattle.model.proofs.core.State.{Book, Node, in_condition, down, State, state_with_node}
 use Rattle.model.proofs.core.Facts.{Extends, extends_trans}
 use Rattle.model.proofs.core.Memories.{Invariant}
 use Rattle.model.proofs.core.Restart.{powerless, powerless_extends}

@@ -1,10 +1,10 @@
 -- The invariant without memories: votes, outcomes, pointers and verdicts.
-use Rattle.std.proofs.Common.{◌≡◌, ℕ, zero, suc, ◌+◌, ◌<◌, ◌≤◌, Bool, true, false, cond, ◌&&◌, ◌||◌, ◌⊎◌, List, [], ◌∷◌, ◌++◌, sym, refl, ap, ◌∙◌, subst, inl, inr, ⊎_elim, arith}
+use Rattle.std.proofs.Common.{◌≡◌, ℕ, ◌<◌, ◌≤◌, true, false, ◌⊎◌, refl, subst, inl, inr, ⊎_elim}
 use Rattle.std.specs.List.{AllByRecursion as All}
 use Rattle.std.proofs.lemmas.Bool.{both_ways, cases_lt}
-use Rattle.model.proofs.core.Lists.{has, Some, Pairs, all_map, all_two, all_some, some_all}
-use Rattle.model.proofs.core.State.{Book, Outcome, absent, present, Entry, Node, Claim, prepares, Verdict, State, has_voted_yes}
-use Rattle.model.proofs.core.Facts.{Committed, Dead, Settled, Over, Ended, Known, Justified, OutcomeRight, VerdictRight, EntryRight}
+use Rattle.model.proofs.core.Lists.{has, Some, Pairs, all_map, all_some, some_all}
+use Rattle.model.proofs.core.State.{Book, Outcome, absent, present, prepares, State, has_voted_yes}
+use Rattle.model.proofs.core.Facts.{Committed, Dead, Ended, Justified, OutcomeRight, VerdictRight, EntryRight}
 
 abbrev pub Durable : Outcome → Type 0
 Durable absent = ⊥

@@ -1,9 +1,9 @@
 -- A checkpoint: memory and journal are flushed, then the pointer moves up to what is in doubt.
-use Rattle.std.proofs.Common.{◌≡◌, ℕ, zero, suc, pred, ◌+◌, ◌-◌, ◌<◌, ◌≤◌, Bool, true, false, cond, ◌&&◌, ◌||◌, ◌⊎◌, List, [], ◌∷◌, ◌++◌, sym, refl, ap, ◌∙◌, subst, inl, inr, ⊎_elim, arith}
+use Rattle.std.proofs.Common.{◌≡◌, ℕ, ◌-◌, ◌<◌, ◌≤◌, Bool, true, false, cond, ◌⊎◌, List, [], ◌∷◌, sym, refl, ap, ◌∙◌, subst, inl, inr, ⊎_elim, arith}
 use Rattle.std.specs.List.{AllByRecursion as All}
-use Rattle.std.proofs.lemmas.Bool.{both_ways, cases_Bool, cases_lt}
-use Rattle.model.proofs.core.Lists.{Some, Pairs, all_map, all_two, some_map, some_all, pairs_map}
-use Rattle.model.proofs.core.State.{Book, Conflict, Outcome, absent, present, Entry, Condition, up, down, Node, in_condition, with_pointer, State, Write, memory_flush, journal_flush, write, write_all, outcomes, outcome_made_durable, replay, serial, state_with_node}
+use Rattle.std.proofs.lemmas.Bool.{both_ways, cases_lt}
+use Rattle.model.proofs.core.Lists.{Some, Pairs, all_map, some_map, some_all, pairs_map}
+use Rattle.model.proofs.core.State.{Book, absent, Entry, up, Node, with_pointer, State, Write, memory_flush, journal_flush, write, write_all, outcome_made_durable, replay, serial, state_with_node}
 use Rattle.model.proofs.core.Facts.{EntryRight, Extends, extends_trans}
 use Rattle.model.proofs.core.Agreement.{Durable, Agreement, absent_not_durable, all_absent_past}
 use Rattle.model.proofs.core.NodeChange as change
@@ -14,7 +14,7 @@ use Rattle.model.proofs.core.Outcomes.{outcomes_all, outcomes_some, outcomes_pai
 use Rattle.model.proofs.core.Replay.{Counts, replay_leaves, replay_further}
 use Rattle.model.proofs.core.Memories.{Before, Owes, Serving, Memories, Invariant}
 use Rattle.model.proofs.core.KeptEntries.{KeptEntries, kept, kept_extends}
-use Rattle.model.proofs.core.Writes.{Allowed, nothing_written, write_all_kept}
+use Rattle.model.proofs.core.Writes.{nothing_written, write_all_kept}
 use Rattle.model.proofs.core.Again.{node_here, node_again}
 
 -- ## The pointer moves at a node that is up, whose memory is flushed

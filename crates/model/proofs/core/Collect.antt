@@ -1,9 +1,9 @@
 -- The oldest entry is dropped: it is dead, or durably applied at every participant.
-use Rattle.std.proofs.Common.{◌≡◌, ℕ, zero, suc, ◌+◌, ◌<◌, ◌≤◌, Bool, true, false, cond, ◌&&◌, ◌||◌, ltb, ◌⊎◌, List, [], ◌∷◌, ◌++◌, sym, refl, ap, ◌∙◌, subst, inl, inr, ⊎_elim, arith}
+use Rattle.std.proofs.Common.{◌≡◌, ℕ, ◌≤◌, Bool, true, false, cond, ◌&&◌, ltb, ◌⊎◌, List, ◌∷◌, sym, refl, ap, ◌∙◌, subst, inl, inr, ⊎_elim, arith}
 use Rattle.std.specs.List.{AllByRecursion as All}
 use Rattle.std.proofs.lemmas.Bool.{le-ltb}
 use Rattle.model.proofs.core.Lists.{Some, Pairs, has, all_map, not_so}
-use Rattle.model.proofs.core.State.{Book, applied, effect, Conflict, Outcome, absent, present, Entry, Condition, up, Node, node_with_entries, Claim, says_settled, State, committed, replay, serial, state_with_node}
+use Rattle.model.proofs.core.State.{Book, applied, effect, Conflict, Outcome, absent, present, Entry, Node, node_with_entries, says_settled, State, committed, replay, serial, state_with_node}
 use Rattle.model.proofs.core.Facts.{Committed, Dead, Settled, Over, Ended, Justified, OutcomeRight, EntryRight, Extends, dead_not_committed}
 use Rattle.model.proofs.core.Agreement.{Durable, Agreement, absent_not_durable}
 use Rattle.model.proofs.core.NodeChange as change
@@ -11,7 +11,7 @@ use Rattle.model.proofs.core.NodeChange.{NodeChange}
 use Rattle.model.proofs.core.NodeChangeMemories as changed
 use Rattle.model.proofs.core.NodeChangeMemories.{MemoryChange}
 use Rattle.model.proofs.core.Replay.{turn, Counts}
-use Rattle.model.proofs.core.Memories.{Before, Owes, Serving, Memories, Invariant}
+use Rattle.model.proofs.core.Memories.{Before, Owes, Memories, Invariant}
 
 module _ {V : Type 0} (B : Book V) (s : State V) (i : Invariant B s) (q : ℕ) (e : Entry) (es : List Entry) (oldest : (s.nodes q).entries ≡ e ∷ es) where
   abbrev k : Node V

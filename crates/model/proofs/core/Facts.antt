@@ -1,10 +1,9 @@
 -- What may be known of a minitransaction for good, what justifies a message or a note, and why both stay.
-use Rattle.std.proofs.Common.{◌≡◌, ℕ, zero, suc, ◌+◌, ◌<◌, ◌≤◌, Bool, true, false, cond, ◌&&◌, ◌||◌, ◌⊎◌, List, [], ◌∷◌, ◌++◌, sym, refl, ap, ◌∙◌, subst, inl, inr, ⊎_elim, arith}
+use Rattle.std.proofs.Common.{◌≡◌, ℕ, ◌<◌, ◌≤◌, Bool, true, false, ◌⊎◌, List, refl, ◌∙◌, inl, inr, ⊎_elim, arith}
 use Rattle.std.specs.List.{AllByRecursion as All}
 use Rattle.std.proofs.lemmas.Bool.{both_ways}
-use Rattle.model.specs.Lists.{every}
 use Rattle.model.proofs.core.Lists.{has, every_has, every_map, all_map, all_some, Some}
-use Rattle.model.proofs.core.State.{Book, Outcome, absent, present, Entry, Node, Claim, says_prepare, says_vote, says_finish, says_inquiry, says_reply, says_query, says_settled, says_outcome, silent, prepares, Verdict, State, committed, has_voted_yes, saw_at}
+use Rattle.model.proofs.core.State.{Book, Outcome, absent, present, Entry, Claim, says_prepare, says_vote, says_finish, says_inquiry, says_reply, says_query, says_settled, says_outcome, silent, prepares, Verdict, State, committed, has_voted_yes, saw_at}
 
 -- ## A node that can no longer vote yes
 

@@ -1,16 +1,16 @@
 -- A finish, whole, at a node that stays up: the outcome is noted, and on yes the write items are written.
-use Rattle.std.proofs.Common.{◌≡◌, ℕ, zero, suc, ◌+◌, ◌<◌, ◌≤◌, Bool, true, false, cond, ◌&&◌, ◌||◌, eqb, ◌⊎◌, List, [], ◌∷◌, ◌++◌, take, sym, refl, ap, ◌∙◌, subst, inl, inr, ⊎_elim, arith}
+use Rattle.std.proofs.Common.{◌≡◌, ℕ, Bool, true, false, cond, ◌||◌, ◌⊎◌, List, [], ◌∷◌, take, sym, refl, ap, ◌∙◌, subst, inl, inr, ⊎_elim}
 use Rattle.std.specs.List.{AllByRecursion as All}
-use Rattle.std.proofs.lemmas.Bool.{both_ways, cases_Bool, cases_eq}
+use Rattle.std.proofs.lemmas.Bool.{both_ways, cases_Bool}
 use Rattle.model.proofs.core.Lists.{Some, Pairs, all_map, all_two, all_some, some_map, some_all, pairs_map}
-use Rattle.model.proofs.core.State.{Book, Effect, applied, puts, effect, Conflict, Outcome, absent, present, Entry, Condition, up, down, Node, node, in_condition, Claim, says_finish, State, Write, note, write, write_all, write_items, outcomes, noted, serial, state_with_node}
-use Rattle.model.proofs.core.Facts.{Committed, Dead, Ended, Known, Justified, EntryRight, Extends, dead_not_committed, ended_past_dead}
-use Rattle.model.proofs.core.Agreement.{Durable, Agreement, absent_past, absent_not_durable, standing_participant}
+use Rattle.model.proofs.core.State.{Book, applied, puts, effect, Conflict, absent, Entry, up, down, Node, node, in_condition, says_finish, State, Write, note, write, write_all, write_items, outcomes, noted, serial, state_with_node}
+use Rattle.model.proofs.core.Facts.{Committed, Dead, Known, Justified, Extends, dead_not_committed, ended_past_dead}
+use Rattle.model.proofs.core.Agreement.{absent_past, absent_not_durable, standing_participant}
 use Rattle.model.proofs.core.Outcomes.{outcomes_some, outcomes_pairs, noted_absent}
 use Rattle.model.proofs.core.Replay.{applied_keep, replay_last}
 use Rattle.model.proofs.core.Memories.{Before, Owes, Redone, Serving, Memories, Invariant}
 use Rattle.model.proofs.core.KeptEntries.{KeptEntries, kept, kept_extends}
-use Rattle.model.proofs.core.Writes.{Allowed, nothing_written, write_all_kept, condition_kept, torn, torn_budget, write_all_items, all_items}
+use Rattle.model.proofs.core.Writes.{Allowed, nothing_written, write_all_kept, torn_budget, write_all_items, all_items}
 
 -- an entry of n without an outcome
 abbrev pub InDoubt : ℕ → List Entry → Type 0

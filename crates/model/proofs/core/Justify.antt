@@ -1,11 +1,10 @@
 -- Why what is sent or noted is justified: each kind of message and note where it comes into being.
-use Rattle.std.proofs.Common.{◌≡◌, ℕ, zero, suc, ◌+◌, ◌<◌, ◌≤◌, Bool, true, false, cond, ◌&&◌, ◌||◌, ◌⊎◌, List, [], ◌∷◌, ◌++◌, sym, refl, ap, ◌∙◌, subst, inl, inr, ⊎_elim, arith}
-use Rattle.std.specs.List.{AllByRecursion as All}
-use Rattle.std.proofs.lemmas.Bool.{cases_eq, cases_Bool, both_ways}
+use Rattle.std.proofs.Common.{◌≡◌, ℕ, ◌<◌, ◌≤◌, Bool, true, false, ◌⊎◌, refl, inl, inr, ⊎_elim, arith}
+use Rattle.std.proofs.lemmas.Bool.{cases_Bool, both_ways}
 use Rattle.model.specs.Lists.{every}
-use Rattle.model.proofs.core.Lists.{Some, At, has, without, all_at, all_some, all_two, some_map, some_all, every_has, every_from, every_fails, not_so}
-use Rattle.model.proofs.core.State.{Book, Outcome, absent, present, Entry, Claim, says_prepare, says_vote, says_finish, says_inquiry, says_reply, says_query, says_settled, says_outcome, prepares, State, has_voted_yes, state_with_network, accept}
-use Rattle.model.proofs.core.Facts.{Closed, no_prepare, forced_abort, Committed, Dead, Settled, Ended, Known, Justified, OutcomeRight, EntryRight, ended_past_dead, known_committed}
+use Rattle.model.proofs.core.Lists.{Some, At, has, without, all_at, all_some, all_two, some_map, every_has, every_from, every_fails, not_so}
+use Rattle.model.proofs.core.State.{Book, Outcome, absent, present, Entry, Claim, says_prepare, says_vote, says_finish, says_inquiry, says_reply, says_query, says_settled, State, has_voted_yes, state_with_network, accept}
+use Rattle.model.proofs.core.Facts.{no_prepare, forced_abort, Committed, Dead, Settled, Ended, Known, Justified, OutcomeRight, EntryRight, ended_past_dead}
 use Rattle.model.proofs.core.Network.{prepares_at}
 use Rattle.model.proofs.core.Log.{logged_here}
 use Rattle.model.proofs.core.Agreement.{Durable, Agreement, standing_voted, standing_participant, voted_opened}

@@ -1,9 +1,9 @@
 -- A node changes that keeps its entries and its pointer: outcomes, bytes, forced aborts and condition.
 -- Finish, flushes, loss of power, restart, resume and forcing are such changes.
-use Rattle.std.proofs.Common.{◌≡◌, ℕ, zero, suc, ◌+◌, ◌<◌, ◌≤◌, Bool, true, false, cond, ◌&&◌, ◌||◌, ◌⊎◌, List, [], ◌∷◌, ◌++◌, sym, refl, ap, ◌∙◌, subst, inl, inr, ⊎_elim, arith}
+use Rattle.std.proofs.Common.{◌≡◌, ℕ, true, ◌⊎◌, List, refl, ◌∙◌, inl, inr, ⊎_elim, arith}
 use Rattle.std.specs.List.{AllByRecursion as All}
-use Rattle.model.proofs.core.Lists.{Some, Pairs, all_map, all_two}
-use Rattle.model.proofs.core.State.{Book, Outcome, Entry, Node, Condition, up, State, replay, serial, entry_with_outcome, outcomes, state_with_node}
+use Rattle.model.proofs.core.Lists.{Some, all_map, all_two}
+use Rattle.model.proofs.core.State.{Book, Outcome, Entry, Node, up, State, replay, serial, entry_with_outcome, outcomes, state_with_node}
 use Rattle.model.proofs.core.Facts.{OutcomeRight, EntryRight, Extends}
 use Rattle.model.proofs.core.Agreement.{Durable, Agreement}
 use Rattle.model.proofs.core.NodeChange as change

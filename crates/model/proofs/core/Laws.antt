@@ -1,11 +1,11 @@
 -- The three laws, read off the invariant.
-use Rattle.std.proofs.Common.{◌≡◌, ℕ, zero, suc, ◌+◌, ◌<◌, ◌≤◌, Bool, true, false, cond, ◌&&◌, ◌||◌, ◌⊎◌, List, [], ◌∷◌, ◌++◌, sym, refl, ap, ◌∙◌, subst, inl, inr, ⊎_elim}
+use Rattle.std.proofs.Common.{◌≡◌, ℕ, Bool, true, false, List, [], ◌∷◌, sym, refl, ◌∙◌, subst, inl, inr, ⊎_elim}
 use Rattle.std.specs.List.{AllByRecursion as All}
 use Rattle.std.proofs.lemmas.Bool.{both_ways}
 use Rattle.model.proofs.core.Lists.{Some, has, all_map, all_some, every_has}
-use Rattle.model.proofs.core.State.{Book, Lawful, puts, effect, Outcome, absent, present, Entry, Condition, up, Verdict, State, committed, after, serial, serial_run, has_voted_yes, saw_at}
+use Rattle.model.proofs.core.State.{Book, Lawful, puts, effect, absent, present, up, State, committed, after, serial, serial_run, has_voted_yes, saw_at}
 use Rattle.model.proofs.core.Facts.{Committed, Known, OutcomeRight, EntryRight, known_committed}
-use Rattle.model.proofs.core.Memories.{Owes, Legal, Memories, Invariant}
+use Rattle.model.proofs.core.Memories.{Owes, Legal, Invariant}
 
 module _ {V : Type 0} (B : Book V) (s : State V) (i : Invariant B s) where
   -- ## Agreement

@@ -1,9 +1,8 @@
 -- The memories against the serial run: order of entries, bytes, and what was seen.
-use Rattle.std.proofs.Common.{◌≡◌, ℕ, zero, suc, ◌+◌, ◌<◌, ◌≤◌, Bool, true, false, cond, ◌&&◌, ◌||◌, ◌⊎◌, List, [], ◌∷◌, ◌++◌, sym, refl, ap, ◌∙◌, subst, inl, inr, ⊎_elim}
-use Rattle.std.specs.List.{AllByRecursion as All}
+use Rattle.std.proofs.Common.{◌≡◌, ℕ, ◌<◌, true, ◌⊎◌, List, [], ◌∷◌}
 use Rattle.model.proofs.core.Lists.{Some, Pairs, has}
-use Rattle.model.proofs.core.State.{Book, Node, Entry, Outcome, absent, present, Condition, up, State, puts, effect, Conflict, committed, replay, after, serial, serial_run, has_voted_yes, saw_at}
-use Rattle.model.proofs.core.Facts.{Dead, Committed}
+use Rattle.model.proofs.core.State.{Book, Node, Entry, absent, up, State, puts, effect, Conflict, replay, after, serial, serial_run, has_voted_yes, saw_at}
+use Rattle.model.proofs.core.Facts.{Committed}
 use Rattle.model.proofs.core.Agreement.{Agreement, Undecided}
 use Rattle.model.proofs.core.Replay.{Counts}
 

@@ -1,6 +1,6 @@
 -- The two moves that change more than one node's stores, on the whole invariant.
 use Rattle.std.proofs.Common.{◌≡◌, ℕ, List}
-use Rattle.model.proofs.core.State.{Book, Condition, up, Claim, Verdict, State, state_with_network, accept}
+use Rattle.model.proofs.core.State.{Book, up, Claim, Verdict, State, state_with_network, accept}
 use Rattle.model.proofs.core.Facts.{Extends}
 use Rattle.model.proofs.core.YesEntry as yes
 use Rattle.model.proofs.core.YesEntry.{CanVoteYes}

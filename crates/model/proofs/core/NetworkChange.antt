@@ -1,13 +1,13 @@
 -- The network, the notes, the next tid and the verdicts given change and no node does: what the change has to show for the invariant to stay.
-use Rattle.std.proofs.Common.{◌≡◌, ℕ, zero, suc, ◌+◌, ◌<◌, ◌≤◌, Bool, true, false, cond, ◌&&◌, ◌||◌, eqb, ◌⊎◌, List, [], ◌∷◌, ◌++◌, sym, refl, ap, ◌∙◌, subst, inl, inr, ⊎_elim, arith}
+use Rattle.std.proofs.Common.{◌≡◌, ℕ, suc, ◌<◌, ◌≤◌, true, eqb, ◌⊎◌, List, [], ◌∷◌, ◌++◌, refl, subst, inl, inr, ⊎_elim, arith}
 use Rattle.std.specs.List.{AllByRecursion as All}
 use Rattle.std.proofs.lemmas.Bool.{cases_eq, eq-eqb, or_right}
-use Rattle.model.proofs.core.Lists.{Pairs, has, Distinct, without, all_map, all_without, all_append, pairs_map}
-use Rattle.model.proofs.core.State.{Book, Entry, Claim, says_prepare, prepares, prepare_each, Verdict, State, has_voted_yes, serial_run, state_with_network}
-use Rattle.model.proofs.core.Facts.{closed_kept, Dead, Justified, VerdictRight, EntryRight, Extends, ended_stays, outcome_stays, all_justified_stays, verdicts_stay}
+use Rattle.model.proofs.core.Lists.{has, Distinct, without, all_map, all_without, all_append, pairs_map}
+use Rattle.model.proofs.core.State.{Book, Claim, prepares, prepare_each, Verdict, State, serial_run, state_with_network}
+use Rattle.model.proofs.core.Facts.{closed_kept, Justified, VerdictRight, EntryRight, Extends, ended_stays, outcome_stays, all_justified_stays, verdicts_stay}
 use Rattle.model.proofs.core.Network.{prepares_without, prepares_append, prepares_of_other, prepares_of_each_one}
 use Rattle.model.proofs.core.Agreement.{Agreement, Undecided, voted_opened}
-use Rattle.model.proofs.core.Memories.{Before, Serving, Legal, Memories}
+use Rattle.model.proofs.core.Memories.{Before, Legal, Memories}
 
 pub record NetworkChange {V : Type 0} (B : Book V) (s : State V) (ms ns : List Claim) (x : ℕ) (vs : List Verdict) : Type 0 where
   pub later : s.next ≤ x

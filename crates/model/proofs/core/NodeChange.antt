@@ -1,9 +1,9 @@
 -- One node changes and nothing else: what the change has to show for agreement's invariant to stay.
-use Rattle.std.proofs.Common.{◌≡◌, ℕ, zero, suc, ◌+◌, ◌<◌, ◌≤◌, Bool, true, false, cond, ◌&&◌, ◌||◌, ◌⊎◌, List, [], ◌∷◌, ◌++◌, sym, refl, ap, ◌∙◌, subst, inl, inr, ⊎_elim, arith}
+use Rattle.std.proofs.Common.{◌≡◌, ℕ, ◌≤◌, true, ◌⊎◌, refl, inl, inr, ⊎_elim, arith}
 use Rattle.std.specs.List.{AllByRecursion as All}
 use Rattle.std.proofs.lemmas.Bool.{cases_eq}
-use Rattle.model.proofs.core.Lists.{update, update_same, update_other, update_both, Some, has, all_map}
-use Rattle.model.proofs.core.State.{Book, Entry, Node, State, has_voted_yes, state_with_node}
+use Rattle.model.proofs.core.Lists.{update_same, update_other, update_both, Some, has, all_map}
+use Rattle.model.proofs.core.State.{Book, Node, State, has_voted_yes, state_with_node}
 use Rattle.model.proofs.core.Facts.{closed_kept, Dead, Settled, Ended, OutcomeRight, EntryRight, Extends, ended_stays, outcome_stays, all_justified_stays, verdicts_stay}
 use Rattle.model.proofs.core.Agreement.{Durable, Agreement}
 

@@ -1,13 +1,11 @@
 -- One node changes and nothing else: what the change has to show for the memories' invariant to stay.
-use Rattle.std.proofs.Common.{◌≡◌, ℕ, zero, suc, ◌+◌, ◌<◌, ◌≤◌, Bool, true, false, cond, ◌&&◌, ◌||◌, ◌⊎◌, List, [], ◌∷◌, ◌++◌, sym, refl, ap, ◌∙◌, subst, inl, inr, ⊎_elim}
-use Rattle.std.specs.List.{AllByRecursion as All}
-use Rattle.model.proofs.core.Lists.{update, update_both, Some, Pairs, pairs_map}
-use Rattle.model.proofs.core.State.{Book, Entry, Node, Condition, up, State, replay, serial, serial_run, state_with_node}
-use Rattle.model.proofs.core.Facts.{Extends}
+use Rattle.std.proofs.Common.{◌≡◌, ℕ, true, List, [], ◌∷◌}
+use Rattle.model.proofs.core.Lists.{update_both, Some, Pairs, pairs_map}
+use Rattle.model.proofs.core.State.{Book, Node, up, State, replay, serial, serial_run, state_with_node}
 use Rattle.model.proofs.core.Agreement.{Agreement, Undecided}
 use Rattle.model.proofs.core.NodeChange.{NodeChange, extends}
 use Rattle.model.proofs.core.Replay.{Counts}
-use Rattle.model.proofs.core.Memories.{Before, Owes, Serving, Legal, Memories}
+use Rattle.model.proofs.core.Memories.{Before, Serving, Legal, Memories}
 
 pub record MemoryChange {V : Type 0} (B : Book V) (s : State V) (q : ℕ) (k : Node V) : Type 0 where
   pub order : Pairs (Before B s q) k.entries

@@ -1,8 +1,8 @@
 -- Outcomes rewritten entry by entry: noting them, making them durable and losing them are such rewritings.
-use Rattle.std.proofs.Common.{◌≡◌, ℕ, zero, suc, ◌+◌, ◌<◌, ◌≤◌, Bool, true, false, cond, ◌&&◌, ◌||◌, ◌⊎◌, List, [], ◌∷◌, ◌++◌, sym, refl, ap, ◌∙◌, subst, inl, inr, ⊎_elim, arith}
+use Rattle.std.proofs.Common.{◌≡◌, ℕ, Bool, true, false, cond, List, [], ◌∷◌, refl, ap, inl, inr, arith}
 use Rattle.std.specs.List.{AllByRecursion as All}
 use Rattle.model.proofs.core.Lists.{Some, Pairs}
-use Rattle.model.proofs.core.State.{Book, Outcome, absent, present, Entry, State, entry_with_outcome, outcomes, noted, outcome_made_durable}
+use Rattle.model.proofs.core.State.{Book, Outcome, absent, present, Entry, State, entry_with_outcome, outcomes, outcome_made_durable}
 use Rattle.model.proofs.core.Facts.{Known, OutcomeRight}
 use Rattle.model.proofs.core.Agreement.{Durable}
 

@@ -1,9 +1,9 @@
 -- Replaying a journal on one byte.
-use Rattle.std.proofs.Common.{◌≡◌, ℕ, zero, suc, ◌+◌, ◌<◌, ◌≤◌, Bool, true, false, cond, ◌&&◌, ◌||◌, eqb, ltb, ◌⊎◌, List, [], ◌∷◌, ◌++◌, sym, refl, ap, ◌∙◌, subst, inl, inr, ⊎_elim, arith}
+use Rattle.std.proofs.Common.{◌≡◌, ℕ, ◌<◌, ◌≤◌, Bool, true, false, cond, ◌&&◌, ltb, ◌⊎◌, List, [], ◌∷◌, ◌++◌, sym, refl, ap, ◌∙◌, inl, inr, arith}
 use Rattle.std.specs.List.{AllByRecursion as All}
 use Rattle.std.proofs.lemmas.Bool.{cases_Bool, cases_lt, lt-ltb, le-ltb}
 use Rattle.model.proofs.core.Lists.{Some, Pairs, all_map, not_so}
-use Rattle.model.proofs.core.State.{Book, Effect, keep, put, applied, puts, effect, Conflict, Outcome, absent, Entry, Yes, committed, replay, outcomes, entry_with_outcome}
+use Rattle.model.proofs.core.State.{Book, Effect, keep, put, applied, puts, effect, Conflict, Outcome, absent, Entry, Yes, committed, replay, outcomes}
 
 pub applied_keep : {V : Type 0} (f : Effect V) → puts f ≡ false → (x : V) → applied f x ≡ x
 applied_keep keep h x = refl

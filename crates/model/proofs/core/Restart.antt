@@ -1,12 +1,12 @@
 -- Power goes, and comes back: bytes written since the last flush may be anything, pending outcomes may be lost.
-use Rattle.std.proofs.Common.{◌≡◌, ℕ, zero, suc, ◌+◌, ◌<◌, ◌≤◌, Bool, true, false, cond, ◌&&◌, ◌||◌, ◌⊎◌, List, [], ◌∷◌, ◌++◌, sym, refl, ap, ◌∙◌, subst, inl, inr, ⊎_elim, arith}
+use Rattle.std.proofs.Common.{◌≡◌, ℕ, Bool, true, false, [], refl, subst, inl, inr, ⊎_elim, arith}
 use Rattle.std.specs.List.{AllByRecursion as All}
 use Rattle.std.proofs.lemmas.Bool.{both_ways, cases_Bool}
 use Rattle.model.proofs.core.Lists.{all_map, all_two}
-use Rattle.model.proofs.core.State.{Book, Outcome, absent, present, Entry, Condition, up, down, recovering, Node, node, in_condition, State, outcomes, state_with_node, write_all}
-use Rattle.model.proofs.core.Facts.{Known, OutcomeRight, EntryRight, Extends}
-use Rattle.model.proofs.core.Agreement.{Durable, Agreement}
-use Rattle.model.proofs.core.Memories.{Redone, Serving, Memories, Invariant}
+use Rattle.model.proofs.core.State.{Book, Outcome, absent, present, Entry, up, down, recovering, Node, node, in_condition, State, outcomes, state_with_node, write_all}
+use Rattle.model.proofs.core.Facts.{OutcomeRight, EntryRight, Extends}
+use Rattle.model.proofs.core.Agreement.{Durable}
+use Rattle.model.proofs.core.Memories.{Invariant}
 use Rattle.model.proofs.core.KeptEntries.{KeptEntries, kept, kept_extends}
 use Rattle.model.proofs.core.Writes.{nothing_written, condition_kept, torn}
 

@@ -1,14 +1,14 @@
 -- A resume, whole: every entry past the pointer gets its outcome, and in journal order those of yes are written again.
-use Rattle.std.proofs.Common.{◌≡◌, ℕ, zero, suc, ◌+◌, ◌<◌, ◌≤◌, Bool, true, false, cond, ◌&&◌, ◌||◌, eqb, ltb, ◌⊎◌, List, [], ◌∷◌, ◌++◌, take, sym, refl, ap, ◌∙◌, subst, inl, inr, ⊎_elim, arith}
+use Rattle.std.proofs.Common.{◌≡◌, ℕ, ◌<◌, Bool, true, false, cond, ◌&&◌, eqb, ltb, List, [], ◌∷◌, ◌++◌, take, sym, refl, ap, ◌∙◌, subst, inl, ⊎_elim, arith}
 use Rattle.std.specs.List.{AllByRecursion as All}
 use Rattle.std.proofs.lemmas.Bool.{both_ways, cases_lt, cond_both, eqb-true, eq-eqb, ltb-true, ltb-false}
-use Rattle.model.proofs.core.Lists.{Some, Pairs, all_map, all_two, all_append, all_self, some_map, pairs_first}
-use Rattle.model.proofs.core.State.{Book, Effect, applied, puts, effect, Conflict, Outcome, absent, present, Entry, Condition, up, down, Node, in_condition, Yes, State, Write, note, item, force, memory_flush, journal_flush, write, write_all, write_items, outcomes, noted, committed, replay, serial, state_with_node}
+use Rattle.model.proofs.core.Lists.{Some, all_map, all_two, all_append, all_self, some_map, pairs_first}
+use Rattle.model.proofs.core.State.{Book, Effect, applied, puts, effect, Outcome, absent, present, Entry, up, down, Node, in_condition, Yes, State, Write, note, write, write_all, write_items, noted, committed, replay, state_with_node}
 use Rattle.model.proofs.core.Facts.{Known, Extends, known_committed}
-use Rattle.model.proofs.core.Agreement.{Durable, Agreement, absent_not_durable}
+use Rattle.model.proofs.core.Agreement.{absent_not_durable}
 use Rattle.model.proofs.core.Outcomes.{outcomes_all, noted_absent}
 use Rattle.model.proofs.core.Replay.{turn, Counts}
-use Rattle.model.proofs.core.Memories.{Redone, Serving, Memories, Invariant}
+use Rattle.model.proofs.core.Memories.{Redone, Serving, Invariant}
 use Rattle.model.proofs.core.KeptEntries.{KeptEntries, kept, kept_extends}
 use Rattle.model.proofs.core.Writes.{Allowed, nothing_written, write_all_kept, condition_kept, torn_budget, write_all_items, write_all_append, all_items}
 use Rattle.model.proofs.core.Finish.{InDoubt, Names, doubt_only}

@@ -1,8 +1,7 @@
 -- The invariant at the start: memories as made, nothing under way, nothing given.
-use Rattle.std.proofs.Common.{◌≡◌, ℕ, zero, suc, ◌+◌, ◌<◌, ◌≤◌, Bool, true, false, ◌⊎◌, List, [], ◌∷◌, refl, inl, inr, arith}
-use Rattle.std.specs.List.{AllByRecursion as All}
+use Rattle.std.proofs.Common.{ℕ, false, [], refl, inl, arith}
 use Rattle.std.proofs.lemmas.Bool.{both_ways}
-use Rattle.model.proofs.core.State.{Book, Node, node, Condition, State, Past, prepares, logged, serial_run, after, replay}
+use Rattle.model.proofs.core.State.{Book, Node, node, Condition, State, prepares, logged, serial_run, after, replay}
 use Rattle.model.proofs.core.Memories.{Invariant}
 
 -- each node in some condition, with an empty journal

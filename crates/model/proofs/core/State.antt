@@ -1,6 +1,6 @@
 -- The core of the protocol: what a minitransaction is to it, nodes, messages, the past, and how a state changes.
 -- Bytes are of any type V; lists of items, capacities, encodings and answers do not enter here.
-use Rattle.std.proofs.Common.{◌≡◌, ℕ, zero, suc, ◌+◌, ◌<◌, ◌≤◌, Bool, true, false, cond, not, ◌&&◌, ◌||◌, eqb, ltb, ◌⊎◌, List, [], ◌∷◌, ◌++◌, refl}
+use Rattle.std.proofs.Common.{◌≡◌, ℕ, suc, ◌+◌, Bool, true, false, cond, not, ◌&&◌, ◌||◌, eqb, ltb, ◌⊎◌, List, [], ◌∷◌, ◌++◌}
 use Rattle.model.specs.Lists.{every}
 use Rattle.model.proofs.core.Lists.{update, without, has, Distinct}
 

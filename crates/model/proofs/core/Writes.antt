@@ -1,15 +1,15 @@
 -- Justified writes of one node: after any of them, in order, the node has kept its entries. So power may fail anywhere.
-use Rattle.std.proofs.Common.{◌≡◌, ℕ, zero, suc, ◌+◌, ◌<◌, ◌≤◌, Bool, true, false, cond, ◌&&◌, ◌||◌, eqb, ◌⊎◌, List, [], ◌∷◌, ◌++◌, take, sym, refl, ap, ◌∙◌, subst, ap₂, inl, inr, ⊎_elim, arith}
+use Rattle.std.proofs.Common.{◌≡◌, ℕ, Bool, true, false, cond, ◌||◌, eqb, ◌⊎◌, List, [], ◌∷◌, ◌++◌, take, sym, refl, ap, ◌∙◌, ap₂, inl, inr, ⊎_elim, arith}
 use mathlib.Core.Path.{fun_ext}
 use Rattle.std.specs.List.{AllByRecursion as All}
 use Rattle.std.proofs.lemmas.Bool.{both_ways, cases_Bool, or_cases, or_right}
-use Rattle.model.proofs.core.Lists.{Some, all_map, all_two, all_take}
-use Rattle.model.proofs.core.State.{Book, Effect, keep, put, applied, puts, followed, together, Outcome, absent, present, Entry, Condition, up, down, recovering, Node, node, in_condition, State, Write, note, item, force, memory_flush, journal_flush, write, write_all, write_items, outcomes, entry_with_outcome, noted, outcome_made_durable, state_with_node}
-use Rattle.model.proofs.core.Facts.{Known, OutcomeRight, EntryRight}
-use Rattle.model.proofs.core.Agreement.{Durable, Agreement}
-use Rattle.model.proofs.core.Outcomes.{outcomes_same, outcomes_outcomes, noted_durable, noted_right, made_durable_right, made_durable_stays}
+use Rattle.model.proofs.core.Lists.{all_map, all_two, all_take}
+use Rattle.model.proofs.core.State.{Book, Effect, keep, put, applied, puts, followed, together, Outcome, present, Condition, up, down, Node, node, in_condition, State, Write, note, item, force, memory_flush, journal_flush, write, write_all, write_items, outcomes, noted, outcome_made_durable, state_with_node}
+use Rattle.model.proofs.core.Facts.{Known, EntryRight}
+use Rattle.model.proofs.core.Agreement.{Durable}
+use Rattle.model.proofs.core.Outcomes.{outcomes_same, outcomes_outcomes, noted_right, made_durable_right, made_durable_stays}
 use Rattle.model.proofs.core.Replay.{applied_keep}
-use Rattle.model.proofs.core.Memories.{Redone, Serving, Memories, Invariant}
+use Rattle.model.proofs.core.Memories.{Redone, Invariant}
 use Rattle.model.proofs.core.KeptEntries.{KeptEntries, kept}
 
 module _ {V : Type 0} (B : Book V) (s : State V) (i : Invariant B s) (q : ℕ) where

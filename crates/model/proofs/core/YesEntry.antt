@@ -1,10 +1,10 @@
 -- A node writes its yes entry: what was known stays known, and agreement's invariant stays.
-use Rattle.std.proofs.Common.{◌≡◌, ℕ, zero, suc, ◌+◌, ◌<◌, ◌≤◌, Bool, true, false, cond, ◌&&◌, ◌||◌, ◌⊎◌, List, [], ◌∷◌, ◌++◌, sym, refl, ap, ◌∙◌, subst, subst₂, inl, inr, ⊎_elim, arith}
+use Rattle.std.proofs.Common.{◌≡◌, ℕ, suc, ◌<◌, ◌≤◌, true, false, ◌⊎◌, refl, ◌∙◌, subst₂, inl, inr, arith}
 use Rattle.std.specs.List.{AllByRecursion as All}
-use Rattle.std.proofs.lemmas.Bool.{cases_eq, both_ways}
-use Rattle.model.proofs.core.Lists.{update, update_same, update_other, update_both, Some, At, has, without, all_map, all_push, all_without, all_at, some_left, some_push, not_so}
-use Rattle.model.proofs.core.State.{Book, Conflict, Outcome, absent, present, Entry, Node, with_new_entry, Claim, says_prepare, prepares, State, has_voted_yes, saw_at, accept}
-use Rattle.model.proofs.core.Facts.{Closed, closed_kept, Committed, Dead, Settled, Ended, Justified, EntryRight, Extends, ended_stays, outcome_stays, all_justified_stays, verdicts_stay}
+use Rattle.std.proofs.lemmas.Bool.{cases_eq}
+use Rattle.model.proofs.core.Lists.{update_same, update_other, update_both, Some, At, has, without, all_map, all_push, all_without, all_at, some_left, some_push, not_so}
+use Rattle.model.proofs.core.State.{Book, Conflict, absent, Entry, Node, with_new_entry, says_prepare, prepares, State, has_voted_yes, accept}
+use Rattle.model.proofs.core.Facts.{Closed, closed_kept, Dead, Settled, Ended, Justified, EntryRight, Extends, ended_stays, outcome_stays, all_justified_stays, verdicts_stay}
 use Rattle.model.proofs.core.Network.{prepares_without, prepares_at}
 use Rattle.model.proofs.core.Log.{same_yes, logged_here, logged_other, logged_more, logged_not}
 use Rattle.model.proofs.core.Log as log

@@ -1,17 +1,17 @@
 -- A node writes its yes entry: the memories' invariant stays. This is the one move that lengthens the serial run.
-use Rattle.std.proofs.Common.{◌≡◌, ℕ, zero, suc, ◌+◌, ◌<◌, ◌≤◌, Bool, true, false, cond, ◌&&◌, ◌||◌, eqb, ltb, ◌⊎◌, List, [], ◌∷◌, ◌++◌, sym, refl, ap, ◌∙◌, subst, inl, inr, ⊎_elim, arith}
+use Rattle.std.proofs.Common.{◌≡◌, ℕ, suc, ◌<◌, true, false, cond, ltb, ◌⊎◌, List, [], ◌∷◌, ◌++◌, sym, refl, ap, ◌∙◌, inl, inr, ⊎_elim, arith}
 use Rattle.std.specs.List.{AllByRecursion as All}
 use Rattle.std.proofs.lemmas.Bool.{cases_eq, cases_Bool, both_ways, lt-ltb}
-use Rattle.model.proofs.core.Lists.{update, update_same, update_other, update_both, Some, Pairs, has, every_has, every_same, all_map, all_each, all_some, some_left, some_push, some_map, pairs_push, pairs_map, pairs_two, not_so}
-use Rattle.model.proofs.core.State.{Book, Effect, applied, puts, effect, Conflict, Outcome, absent, present, Entry, Node, with_new_entry, entry_to_add, Condition, up, Yes, logged, committed, seen, serial_run, after, replay, State, has_voted_yes, saw_at, serial, accept}
-use Rattle.model.proofs.core.Facts.{Dead, Committed, Known, OutcomeRight, EntryRight, Extends, committed_stays, dead_not_committed}
+use Rattle.model.proofs.core.Lists.{update_same, update_other, update_both, Some, Pairs, has, every_has, every_same, all_map, all_each, all_some, some_left, some_push, some_map, pairs_push, pairs_map, pairs_two, not_so}
+use Rattle.model.proofs.core.State.{Book, applied, puts, effect, Conflict, Outcome, absent, present, Entry, Node, with_new_entry, entry_to_add, up, Yes, logged, committed, serial_run, after, replay, State, has_voted_yes, saw_at, serial, accept}
+use Rattle.model.proofs.core.Facts.{Committed, OutcomeRight, EntryRight, Extends, committed_stays, dead_not_committed}
 use Rattle.model.proofs.core.Log.{same_yes, more, logged_here, logged_other}
 use Rattle.model.proofs.core.Log as log
 use Rattle.model.proofs.core.Agreement.{Agreement, Undecided, undecided_stands, standing_participant}
 use Rattle.model.proofs.core.YesEntry as yes
 use Rattle.model.proofs.core.YesEntry.{CanVoteYes, extends, not_yet}
 use Rattle.model.proofs.core.Replay.{turn, Counts, applied_keep, replay_push, replay_same, replay_commit}
-use Rattle.model.proofs.core.Memories.{Before, Owes, Redone, Serving, Legal, Memories}
+use Rattle.model.proofs.core.Memories.{Before, Owes, Redone, Legal, Memories}
 
 module _ {V : Type 0} (B : Book V) (s : State V) (v : Agreement B s) (w : Memories B s) (i n q : ℕ) (g : CanVoteYes B s i n q) (up_here : (s.nodes q).condition ≡ up) where
   abbrev t : State V

@@ -1,7 +1,5 @@
 -- A participant of which it does not hold decides; else each turn passes one node more.
-use Rattle.std.proofs.Common.{◌≡◌, ℕ, suc, ◌+◌, Bool, true, false, not, ◌&&◌, ◌||◌, get_or, sym, ap, ◌∙◌, arith, rules}
-use Rattle.model.specs.Lists.{every}
-use Rattle.model.specs.Participants.{includes, members_below}
+use Rattle.std.proofs.Common.{false, get_or, sym, arith, rules}
 use Rattle.model.proofs.Members.{every_none, every_below, every_fails}
 use Rattle.model.proofs.participants.every_member.Goals as goal
 

@@ -1,5 +1,5 @@
 -- The two tests agree on every node of a cluster.
-use Rattle.std.proofs.Common.{◌≡◌, ℕ, ◌<◌, Bool, true, false, ◌||◌, eqb, get_or, sym, ap, ◌∙◌, arith}
+use Rattle.std.proofs.Common.{false, ◌||◌, eqb, get_or, sym, ap, ◌∙◌, arith}
 use Rattle.std.proofs.lemmas.Bool.{ne_eqb}
 use Rattle.model.proofs.Members.{every_same, with_one}
 use Rattle.model.proofs.participants.every_other.Goals as goal
@@ -7,7 +7,7 @@ use Rattle.model.proofs.participants.every_other.Goals.{then-one-lt4, else-one-l
 
 pub returns : goal.returns
 returns c =
-    c.every-member.ensures
+    c.every_member.ensures
     ∙ every_same (λ q. get_or c.if-one-lt4.others q false) (λ q. eqb q c.args.one || get_or c.args.holds.now q false) c.args.participants 4
     (λ q l. elim c.if-one-lt4.branch [
       | then-one-lt4 w ↦ ap (λ fs. get_or fs q false) w.others-is ∙ with_one c.args.holds.now c.args.one q (omega (arith, c.told-holds))
