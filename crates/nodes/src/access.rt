@@ -21,7 +21,7 @@ use records::items::Items;
 /// Whether these very bytes stand at an address.
 fn matches_at<M: Memory>(memory: &M, address: u16, wanted: &[u8]) -> bool
     requires { length wanted.now ≤ longest_item }
-    ensures { result ≡ matches_at (bytes memory.now) address wanted.now }
+    ensures { result ≡ matches_at (M.bytes memory.now) address wanted.now }
 {
     let mut buffer = [0; 16];
     let found = &mut buffer[0..wanted.len()];
@@ -34,7 +34,7 @@ fn matches_at<M: Memory>(memory: &M, address: u16, wanted: &[u8]) -> bool
 /// Whether a comparison is true; another item asks nothing.
 fn holds<M: Memory>(memory: &M, item: &Item<'_>) -> bool
     requires { is_item (item_meaning item.now) ≡ true }
-    ensures { result ≡ isTrue (bytes memory.now) (item_meaning item.now) }
+    ensures { result ≡ isTrue (M.bytes memory.now) (item_meaning item.now) }
 {
     match item {
         Item::Compare { address, data, .. } => matches_at(memory, *address, data),
@@ -44,7 +44,7 @@ fn holds<M: Memory>(memory: &M, item: &Item<'_>) -> bool
 
 /// Whether every comparison is true.
 pub(crate) fn all_hold<M: Memory>(memory: &M, items: Items<'_>) -> bool
-    ensures { result ≡ all_hold (bytes memory.now) (items_meaning items.entry) }
+    ensures { result ≡ all_hold (M.bytes memory.now) (items_meaning items.entry) }
 {
     for item in items {
         if !holds(memory, &item) {
@@ -57,8 +57,8 @@ pub(crate) fn all_hold<M: Memory>(memory: &M, items: Items<'_>) -> bool
 /// Writes a write item. One that passes the end of the memory is refused by it and alters nothing;
 /// no item that was opened does.
 fn put_item<M: Memory>(memory: &mut M, item: &Item<'_>)
-    ensures bytes { bytes memory.new ≡ put_item (bytes memory.old) (item_meaning item.now) }
-    ensures spared { (k : ℕ) → not (durable memory.new k) ≡ true → touched_by (put (item_meaning item.now)) k (not (durable memory.old k)) ≡ true }
+    ensures bytes { M.bytes memory.new ≡ put_item (M.bytes memory.old) (item_meaning item.now) }
+    ensures spared { (k : ℕ) → not (M.durable memory.new k) ≡ true → touched_by (put (item_meaning item.now)) k (not (M.durable memory.old k)) ≡ true }
 {
     if let Item::Write { address, data, .. } = item {
         let _ = memory.write(*address as usize, data);
@@ -67,7 +67,7 @@ fn put_item<M: Memory>(memory: &mut M, item: &Item<'_>)
 
 /// Writes a write item, if the budget allows it.
 fn put_counted<M: Memory>(memory: &mut M, item: &Item<'_>, budget: &mut Budget)
-    ensures { (j : Log) → MadeOne budget.old.left (put (item_meaning item.now)) (both (bytes memory.old) j) (durable memory.old) budget.new.left (both (bytes memory.new) j) (durable memory.new) }
+    ensures { (j : Log) → MadeOne budget.old.left (put (item_meaning item.now)) (both (M.bytes memory.old) j) (M.durable memory.old) budget.new.left (both (M.bytes memory.new) j) (M.durable memory.new) }
 {
     if budget.spend() {
         put_item(memory, item);
@@ -81,7 +81,7 @@ pub(crate) fn put_items<M: Memory>(
     selection: Selection,
     budget: &mut Budget,
 )
-    ensures { (j : Log) → Made budget.old.left (puts selection (items_meaning items.entry)) (both (bytes memory.old) j) (durable memory.old) budget.new.left (both (bytes memory.new) j) (durable memory.new) }
+    ensures { (j : Log) → Made budget.old.left (puts selection (items_meaning items.entry)) (both (M.bytes memory.old) j) (M.durable memory.old) budget.new.left (both (M.bytes memory.new) j) (M.durable memory.new) }
 {
     for item in items {
         if !selection.takes(&item) {

@@ -26,7 +26,7 @@ use model::party::Party;
 impl<M: Memory, J: Journal> Node<M, J> {
     /// Whether nothing of a minitransaction depends on this journal any more.
     fn is_settled(&self, tid: u16) -> bool
-        ensures { result ≡ is_settled (log self.now.journal) tid }
+        ensures { result ≡ is_settled (J.log self.now.journal) tid }
     {
         match entry_of(&self.journal, tid) {
             Some(entry) => entry.running <= self.journal.pointer(),
@@ -36,7 +36,7 @@ impl<M: Memory, J: Journal> Node<M, J> {
 
     /// A query: settled is sent back where nothing depends on this journal any more.
     pub(crate) fn answer_query(&self, me: u16, tid: u16, sender: Party) -> Option<Response>
-        ensures { sent_meaning result ≡ (queried me (node_meaning bytes log self.now) tid sender).sent }
+        ensures { sent_meaning result ≡ (queried me (node_meaning M.bytes J.log self.now) tid sender).sent }
     {
         if self.is_settled(tid) {
             Some(Response {
@@ -52,7 +52,7 @@ impl<M: Memory, J: Journal> Node<M, J> {
 
     /// The oldest entry, if there is one.
     pub(crate) fn oldest(&self) -> Option<EntryView<'_>>
-        ensures { option_map entry_meaning result ≡ (if is_empty (log self.now.journal) then None else Some (oldestOf (log self.now.journal))) }
+        ensures { option_map entry_meaning result ≡ (if is_empty (J.log self.now.journal) then None else Some (oldestOf (J.log self.now.journal))) }
     {
         match self.journal.place(0) {
             Some(place) => self.journal.entry(place),
@@ -62,7 +62,7 @@ impl<M: Memory, J: Journal> Node<M, J> {
 
     /// Whether a minitransaction is the oldest entry's.
     fn is_oldest(&self, tid: u16) -> bool
-        ensures { result ≡ is_oldest (log self.now.journal) tid }
+        ensures { result ≡ is_oldest (J.log self.now.journal) tid }
     {
         match self.oldest() {
             Some(entry) => entry.tid == tid,
@@ -73,7 +73,7 @@ impl<M: Memory, J: Journal> Node<M, J> {
     /// A settled message: its sender has the oldest entry durably applied.
     pub(crate) fn acknowledge(&mut self, tid: u16, sender: Party)
         ensures stores { (self.new.memory ≡ self.old.memory) × (self.new.journal ≡ self.old.journal) }
-        ensures volatile { volatile_meaning self.new.volatile ≡ (acknowledging (node_meaning bytes log self.old) tid sender).volatile }
+        ensures volatile { volatile_meaning self.new.volatile ≡ (acknowledging (node_meaning M.bytes J.log self.old) tid sender).volatile }
     {
         if !self.is_oldest(tid) {
             return;
@@ -86,7 +86,7 @@ impl<M: Memory, J: Journal> Node<M, J> {
     /// A reply while recovering: it may resolve an entry without outcome.
     pub(crate) fn hear_reply(&mut self, me: u16, tid: u16, sender: Party, stands: bool)
         ensures stores { (self.new.memory ≡ self.old.memory) × (self.new.journal ≡ self.old.journal) }
-        ensures volatile { volatile_meaning self.new.volatile ≡ (replied me (node_meaning bytes log self.old) tid sender stands).volatile }
+        ensures volatile { volatile_meaning self.new.volatile ≡ (replied me (node_meaning M.bytes J.log self.old) tid sender stands).volatile }
     {
         let Some((place, found)) = self.volatile.unresolved.get(tid) else {
             return;
@@ -100,14 +100,14 @@ impl<M: Memory, J: Journal> Node<M, J> {
 
     /// Whether the yes entry of a minitransaction stands.
     fn has_entry(&self, tid: u16) -> bool
-        ensures { result ≡ has_entry (log self.now.journal) tid }
+        ensures { result ≡ has_entry (J.log self.now.journal) tid }
     {
         place_of(&self.journal, tid).is_some()
     }
 
     /// Whether there is no room for another forced abort.
     fn is_forced_full(&self) -> bool
-        ensures { result ≡ is_forced_full (log self.now.journal) }
+        ensures { result ≡ is_forced_full (J.log self.now.journal) }
     {
         forced_full(self.journal.places(), self.journal.forced_count())
     }
@@ -120,7 +120,7 @@ impl<M: Memory, J: Journal> Node<M, J> {
         sender: Party,
         budget: &mut Budget,
     ) -> Reaction
-        ensures { Reacts budget.old.left (inquired me (node_meaning bytes log self.old) tid sender) (node_meaning bytes log self.old) (durable self.old.memory) result budget.new.left (node_meaning bytes log self.new) (durable self.new.memory) }
+        ensures { Reacts budget.old.left (inquired me (node_meaning M.bytes J.log self.old) tid sender) (node_meaning M.bytes J.log self.old) (M.durable self.old.memory) result budget.new.left (node_meaning M.bytes J.log self.new) (M.durable self.new.memory) }
     {
         if self.has_entry(tid) {
             return replying(me, tid, sender, true);

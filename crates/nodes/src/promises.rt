@@ -17,7 +17,7 @@ pub(crate) fn add_entry<J: Journal>(
     writes: &WriteSet,
     budget: &mut Budget,
 )
-    ensures { (cells : List ℕ) (durable : ℕ → Bool) → MadeOne budget.old.left (add_entry tid participants (writes_of writes.now)) (both cells (log journal.old)) durable budget.new.left (both cells (log journal.new)) durable }
+    ensures { (cells : List ℕ) (durable : ℕ → Bool) → MadeOne budget.old.left (add_entry tid participants (writes_of writes.now)) (both cells (J.log journal.old)) durable budget.new.left (both cells (J.log journal.new)) durable }
 {
     if budget.spend() {
         let _ = journal.add(tid, participants, writes);
@@ -26,7 +26,7 @@ pub(crate) fn add_entry<J: Journal>(
 
 /// Adds a forced abort, if the budget allows it; a journal without room refuses and is not altered.
 pub(crate) fn force_abort<J: Journal>(journal: &mut J, tid: u16, budget: &mut Budget)
-    ensures { (cells : List ℕ) (durable : ℕ → Bool) → MadeOne budget.old.left (force tid) (both cells (log journal.old)) durable budget.new.left (both cells (log journal.new)) durable }
+    ensures { (cells : List ℕ) (durable : ℕ → Bool) → MadeOne budget.old.left (force tid) (both cells (J.log journal.old)) durable budget.new.left (both cells (J.log journal.new)) durable }
 {
     if budget.spend() {
         let _ = journal.force(tid);
@@ -40,7 +40,7 @@ pub(crate) fn note_outcome<J: Journal>(
     commits: bool,
     budget: &mut Budget,
 )
-    ensures { (cells : List ℕ) (durable : ℕ → Bool) → MadeOne budget.old.left (note tid commits) (both cells (log journal.old)) durable budget.new.left (both cells (log journal.new)) durable }
+    ensures { (cells : List ℕ) (durable : ℕ → Bool) → MadeOne budget.old.left (note tid commits) (both cells (J.log journal.old)) durable budget.new.left (both cells (J.log journal.new)) durable }
 {
     if budget.spend() {
         let _ = journal.note(tid, commits);

@@ -39,7 +39,7 @@ impl Reads {
 /// Reads some bytes behind those that were read before; a range past the end of the memory gives none.
 fn read_at<M: Memory>(memory: &M, address: u16, length: u8, reads: Reads) -> Reads
     requires { (reads.length + longest_item ≤ most_reads) × (length ≤ longest_item) }
-    ensures bytes { read_bytes result ≡ read_bytes reads ++ read_at (bytes memory.now) address length }
+    ensures bytes { read_bytes result ≡ read_bytes reads ++ read_at (M.bytes memory.now) address length }
     ensures count { result.length ≤ reads.length + longest_item }
 {
     let mut more = reads;
@@ -57,7 +57,7 @@ fn read_at<M: Memory>(memory: &M, address: u16, length: u8, reads: Reads) -> Rea
 /// Reads what an item reads behind those bytes that were read before.
 fn read_item<M: Memory>(memory: &M, item: &Item<'_>, reads: Reads) -> Reads
     requires { (reads.length + longest_item ≤ most_reads) × (is_item (item_meaning item.now) ≡ true) }
-    ensures bytes { read_bytes result ≡ read_bytes reads ++ read_item (bytes memory.now) (item_meaning item.now) }
+    ensures bytes { read_bytes result ≡ read_bytes reads ++ read_item (M.bytes memory.now) (item_meaning item.now) }
     ensures count { result.length ≤ reads.length + longest_item }
 {
     match item {
@@ -73,7 +73,7 @@ fn read_item<M: Memory>(memory: &M, item: &Item<'_>, reads: Reads) -> Reads
 /// The bytes that the items of a list read, in item order.
 pub(crate) fn read_items<M: Memory>(memory: &M, items: Items<'_>) -> Reads
     requires { length (items_meaning items) ≤ most_items }
-    ensures bytes { read_bytes result ≡ read_items (bytes memory.now) (items_meaning items.entry) }
+    ensures bytes { read_bytes result ≡ read_items (M.bytes memory.now) (items_meaning items.entry) }
     ensures count { result.length ≤ most_reads }
 {
     let mut reads = Reads::none();
