@@ -13,14 +13,14 @@ pub loop-item-preserved : goal.loop-item-preserved
 loop-item-preserved c =
     let first = c.in-Some.ensures.steps
     in let item = item_meaning c.in-Some.item
-    in let bound = size_bound item _ c.in-Some-item-size.ensures
+    in let bound = size_bound item _ c.in-Some-item_size.ensures
     in (
       tt,
       tt,
       omega (arith, bound),
       omega arith,
       omega (arith, ap length first),
-      sizing_more _ _ item _ _ _ first c.in-Some-item-size.ensures c.loop-item.invariant.5,
+      sizing_more _ _ item _ _ _ first c.in-Some-item_size.ensures c.loop-item.invariant.5,
     )
 
 pub returns-else-count-eq0 : goal.returns-else-count-eq0

@@ -20,13 +20,13 @@ loop-item-preserved c =
     in (
       tt,
       tt,
-      putting_more c.loop-item.buffer c.put-item-end.new.buffer c.args.buffer.now c.loop-item.end _
+      putting_more c.loop-item.buffer c.put_item-end.new.buffer c.args.buffer.now c.loop-item.end _
           c.args.at
           (item_meaning c.in-Some.item) _ _ _
           c.in-Some.ensures.steps
           room
-          c.put-item-end.ensures.end
-          c.put-item-end.ensures.bytes
+          c.put_item-end.ensures.end
+          c.put_item-end.ensures.bytes
           c.loop-item.invariant.2,
     )
 

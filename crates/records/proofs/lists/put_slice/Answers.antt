@@ -18,12 +18,12 @@ put-item-end-requires c =
 pub loop-item-preserved : goal.loop-item-preserved
 loop-item-preserved c =
     let room : c.args.at + length (encode_items (map item_meaning c.args.items.now)) ≤ length c.loop-item.buffer = omega arith
-    in putting_more c.loop-item.buffer c.put-item-end.new.buffer c.args.buffer.now c.loop-item.end _ c.args.at
+    in putting_more c.loop-item.buffer c.put_item-end.new.buffer c.args.buffer.now c.loop-item.end _ c.args.at
     (item_meaning (get_or c.args.items.now c.loop-item.item-index no_item)) _ _ _
     (first_left c.args.items.now _ c.loop-item-test.true)
     room
-    c.put-item-end.ensures.end
-    c.put-item-end.ensures.bytes
+    c.put_item-end.ensures.end
+    c.put_item-end.ensures.bytes
     c.loop-item.invariant
 
 pub returns : goal.returns

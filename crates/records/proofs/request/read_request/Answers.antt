@@ -19,6 +19,6 @@ pub returns : goal.returns
 returns c =
     let value : list_meaning c.parse.result ≡ ok_or (decode_request c.args.bytes.now) Malformed =
     c.parse.ensures ∙
-    ap (λ bs. ok_or (decode_list bs) Malformed) c.split-at.ensures.back ∙
-    sym (ap (λ o. ok_or o Malformed) (decode_record _ (sym c.if-not-is-record.ensures)))
-    in record { value = value; again = read_again _ _ (λ i. omega (arith, c.type-inv.bytes i)) value }
+    ap (λ bs. ok_or (decode_list bs) Malformed) c.split_at.ensures.back ∙
+    sym (ap (λ o. ok_or o Malformed) (decode_record _ (sym c.if-not-is_record.ensures)))
+    in record { value = value; again = read_again _ _ (λ i. omega (arith, c.ok.bytes i)) value }
