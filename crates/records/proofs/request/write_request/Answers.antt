@@ -12,8 +12,8 @@ use Rattle.model.proofs.Splices.{splice_start, splice_more, placed_more, length_
 use Rattle.records.specs.Meaning.{item_meaning}
 use Rattle.records.proofs.request.write_request.Goals as goal
 
-pub overflow-add-size : goal.overflow-add-size
-overflow-add-size c =
+pub overflow_add-size : goal.overflow_add-size
+overflow_add-size c =
     let is = map item_meaning c.args.items.now
     in let s = list_sized is _ c.in-Some.ensures
     in omega (arith, list_bound is s.0, s.1)
@@ -25,14 +25,14 @@ returns-then-buffer-size c =
     in let short : length c.args.buffer.now < length (encode_request is) = omega (arith, request_length is, s.1)
     in record { value = written_short _ _ _ s.0 short; back = tt }
 
-pub overflow-cast-size : goal.overflow-cast-size
-overflow-cast-size c =
+pub overflow_cast-size : goal.overflow_cast-size
+overflow_cast-size c =
     let is = map item_meaning c.args.items.now
     in let s = list_sized is _ c.in-Some.ensures
     in omega (arith, list_bound is s.0, s.1)
 
-pub overflow-cast-items : goal.overflow-cast-items
-overflow-cast-items c =
+pub overflow_cast-items : goal.overflow_cast-items
+overflow_cast-items c =
     let is = map item_meaning c.args.items.now
     in let s = list_sized is _ c.in-Some.ensures
     in omega (arith, list_few is s.0, length-map c.args.items.now item_meaning)

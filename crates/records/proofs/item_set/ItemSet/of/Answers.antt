@@ -26,16 +26,16 @@ loop-item-preserved-then-not-takes c = (
       c.loop-item.invariant.2,
 )
 
-pub returns-then-count-eq-MOST-ITEMS : goal.returns-then-count-eq-MOST-ITEMS
-returns-then-count-eq-MOST-ITEMS c =
-    keeping_full (selected c.args.selection) _ _ c.loop-item.count c.loop-item.end c.loop-item.bytes c.if-count-eq-MOST-ITEMS.true c.loop-item.invariant.2
+pub returns-then-count-eq-MOST_ITEMS : goal.returns-then-count-eq-MOST_ITEMS
+returns-then-count-eq-MOST_ITEMS c =
+    keeping_full (selected c.args.selection) _ _ c.loop-item.count c.loop-item.end c.loop-item.bytes c.if-count-eq-MOST_ITEMS.true c.loop-item.invariant.2
 
-pub loop-item-preserved-in-default : goal.loop-item-preserved-in-default
-loop-item-preserved-in-default c =
-    absurd (put_not _ _ c.in-default.ensures.end
+pub loop-item-preserved-in_default : goal.loop-item-preserved-in_default
+loop-item-preserved-in_default c =
+    absurd (put_not _ _ c.in_default.ensures.end
     (keeping_room (selected c.args.selection) _ _ _ c.loop-item.count c.loop-item.end c.loop-item.bytes (item_meaning c.in-Some.item)
     c.in-Some.ensures.steps
-    c.if-count-eq-MOST-ITEMS.false
+    c.if-count-eq-MOST_ITEMS.false
     c.loop-item.invariant.2).1.1)
 
 pub loop-item-preserved : goal.loop-item-preserved
