@@ -16,9 +16,9 @@ returns-then-items-lt1 c =
       | then-items-lt1-via-else-items-lt1+then-items w ↦ size_none all (inr (omega (arith, n, w.if-items.true)))
     ]
 
-pub returns-in-default : goal.returns-in-default
-returns-in-default c =
-    sizing_stuck _ _ _ _ _ (first_left c.args.items.now _ c.loop-item-test.true) c.in-default.ensures
+pub returns-in_default : goal.returns-in_default
+returns-in_default c =
+    sizing_stuck _ _ _ _ _ (first_left c.args.items.now _ c.loop-item-test.true) c.in_default.ensures
     c.loop-item.invariant.1
 
 pub loop-item-preserved : goal.loop-item-preserved

@@ -5,6 +5,6 @@ use Rattle.records.proofs.items.Items.len.Given as goal
 
 abbrev pub invariant-loop-item : goal.invariant-loop-item
 invariant-loop-item l =
-    (goal.iterator-loop-item).can_next l.-item-iterator ×
-    (goal.iterator-loop-item).is_finite l.-item-iterator ×
-    (l.count + length (items_meaning l.-item-iterator) ≡ length (items_meaning l.self))
+    (goal.iterator-loop-item).can_next l._item-iterator ×
+    (goal.iterator-loop-item).is_finite l._item-iterator ×
+    (l.count + length (items_meaning l._item-iterator) ≡ length (items_meaning l.self))

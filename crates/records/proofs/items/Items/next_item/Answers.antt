@@ -8,8 +8,8 @@ pub returns-then-self-eq0 : goal.returns-then-self-eq0
 returns-then-self-eq0 c =
     (ap (λ n. take_items n c.args.self.now.bytes.now) c.if-self-eq0.true ∙ take_none _, refl)
 
-pub returns-in-default : goal.returns-in-default
-returns-in-default c = (take_stuck _ _ (sym c.in-default.ensures), refl)
+pub returns-in_default : goal.returns-in_default
+returns-in_default c = (take_stuck _ _ (sym c.in_default.ensures), refl)
 
 pub returns : goal.returns
 returns c =
