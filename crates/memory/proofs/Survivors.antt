@@ -1,5 +1,5 @@
 -- What survives when every byte is durable: all of them.
-use Rattle.std.proofs.Common.{◌≡◌, ℕ, Bool, List, sym}
+use Rattle.std.proofs.Common.{◌≡◌, ℕ, Bool, List}
 use Rattle.std.proofs.lemmas.List.{ext_get_or}
 use Rattle.model.specs.Memory.{AllDurable, Survived}
 

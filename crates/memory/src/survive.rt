@@ -14,12 +14,12 @@ pub fn write_and_survive<M: Memory>(
     from: &[u8],
     out: &mut [u8],
 ) -> Result<(), Refusal>
-    ensures answer { result ≡ (if within (bytes memory.old) at (length from.now) && within (bytes memory.old) at (length out.old) then Ok tt else Err Refusal.OutOfRange) }
-    ensures bytes { bytes memory.new ≡ (if is_ok result then splice (bytes memory.old) at from.now else bytes memory.old) }
-    ensures durable { is_ok result ≡ true → AllDurable (durable memory.new) }
-    ensures copied { out.new ≡ (if is_ok result then part (bytes memory.new) at (length out.old) else out.old) }
+    ensures answer { result ≡ (if within (M.bytes memory.old) at (length from.now) && within (M.bytes memory.old) at (length out.old) then Ok tt else Err Refusal.OutOfRange) }
+    ensures bytes { M.bytes memory.new ≡ (if is_ok result then splice (M.bytes memory.old) at from.now else M.bytes memory.old) }
+    ensures durable { is_ok result ≡ true → AllDurable (M.durable memory.new) }
+    ensures copied { out.new ≡ (if is_ok result then part (M.bytes memory.new) at (length out.old) else out.old) }
     ensures survived { is_ok result ≡ true → length out.old ≡ length from.now → out.new ≡ from.now }
-    ensures refused { is_ok result ≡ false → (k : ℕ) → durable memory.new k ≡ durable memory.old k }
+    ensures refused { is_ok result ≡ false → (k : ℕ) → M.durable memory.new k ≡ M.durable memory.old k }
 {
     if !fits(memory.len(), at, out.len()) {
         return Err(Refusal::OutOfRange);

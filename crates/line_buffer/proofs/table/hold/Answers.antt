@@ -14,8 +14,8 @@ few_lines ls q t o =
     ⊎_elim (λ t. absurd (both_ways _ o t)) (λ t. ltb-true _ _ t) (or_cases (member q (numbers ls)) _ t) in
     omega (arith, length-map ls line_number)
 
-pub push-reserved-requires : goal.push-reserved-requires
-push-reserved-requires c =
+pub push_reserved-requires : goal.push_reserved-requires
+push_reserved-requires c =
     let ls = vec_items c.args.lines.now in
     let o : member (c.args.at / line_bytes) (numbers ls) ≡ false =
     ap (λ xs. member (c.args.at / line_bytes) (numbers xs)) (sym c.as-slice.ensures.value) ∙ c.in-None.ensures in
@@ -27,8 +27,8 @@ returns-in-Some c =
     let w = c.with-line.ensures in
     let ls = vec_items c.args.lines.now in
     let i = c.in-Some.i in
-    let lt : i < length ls = subst (λ xs. i < length xs) c.as-slice.ensures.value f.0 in
-    let g : get_or (numbers ls) i 0 ≡ c.args.at / line_bytes = subst (λ xs. get_or (numbers xs) i 0 ≡ c.args.at / line_bytes) c.as-slice.ensures.value f.1 in
+    let lt : i < length ls = subst (λ xs. i < length xs) c.as_slice.ensures.value f.0 in
+    let g : get_or (numbers ls) i 0 ≡ c.args.at / line_bytes = subst (λ xs. get_or (numbers xs) i 0 ≡ c.args.at / line_bytes) c.as_slice.ensures.value f.1 in
     let q = sym (get_or_numbers ls i c.index.result.now lt c.index.ensures) ∙ g in
     let ns = numbers_found ls c.args.at c.args.from.now c.requires.inside i c.index.result.now c.with-line.result lt c.index.ensures q w.number in
     record {
@@ -44,15 +44,15 @@ returns-in-None c =
     let w = c.with.ensures in
     let ls = vec_items c.args.lines.now in
     let o : member (c.args.at / line_bytes) (numbers ls) ≡ false =
-    ap (λ xs. member (c.args.at / line_bytes) (numbers xs)) (sym c.as-slice.ensures.value) ∙ c.in-None.ensures in
+    ap (λ xs. member (c.args.at / line_bytes) (numbers xs)) (sym c.as_slice.ensures.value) ∙ c.in-None.ensures in
     let n = w.number ∙ c.blank.ensures.number in
-    let ns = ap numbers c.push-reserved.ensures.items ∙ numbers_fresh ls c.args.at c.args.from.now c.requires.inside c.with.result o n in
+    let ns = ap numbers c.push_reserved.ensures.items ∙ numbers_fresh ls c.args.at c.args.from.now c.requires.inside c.with.result o n in
     record {
       held = λ k.
-          ap (λ xs. held_at xs k) c.push-reserved.ensures.items
+          ap (λ xs. held_at xs k) c.push_reserved.ensures.items
           ∙ held_at_fresh ls c.args.at c.args.from.now c.requires.inside c.with.result o n (rw c.blank.ensures.cells at w.cells) k;
       numbers = ns;
       distinct = apart_added (numbers ls) _ (c.args.at / line_bytes) c.requires.distinct ns;
-      few = omega (arith, few_lines ls (c.args.at / line_bytes) c.requires.room o, c.args.lines.now.ok.0, c.push-reserved.ensures.len);
-      capacity = c.push-reserved.ensures.capacity;
+      few = omega (arith, few_lines ls (c.args.at / line_bytes) c.requires.room o, c.args.lines.now.ok.0, c.push_reserved.ensures.len);
+      capacity = c.push_reserved.ensures.capacity;
     }

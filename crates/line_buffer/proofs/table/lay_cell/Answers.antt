@@ -19,7 +19,7 @@ returns-else-at-address c =
     ] in
     laid_one_outside c.args.at c.args.address c.args.cell c.args.out.now past
 
-pub returns-in-default : goal.returns-in-default
-returns-in-default c =
+pub returns-in_default : goal.returns-in_default
+returns-in_default c =
     laid_one_none c.args.at c.args.address c.args.out.now
-    ∙ ap (λ v. laid c.args.at (λ k. cond (eqb k c.args.address) v None) c.args.out.now) (sym c.in-default.is)
+    ∙ ap (λ v. laid c.args.at (λ k. cond (eqb k c.args.address) v None) c.args.out.now) (sym c.in_default.is)

@@ -9,9 +9,9 @@ loop-c-init g c = (laid_nothing _ _ _ (cells_below_none c.args.line), λ k o t. 
 
 pub loop-c-preserved : goal.loop-c-preserved
 loop-c-preserved g c = (
-  c.write-cell.ensures.bytes ∙ ap (laid 0 _) c.loop-c.invariant.0
+  c.write_cell.ensures.bytes ∙ ap (laid 0 _) c.loop-c.invariant.0
       ∙ laid_laid _ _ _ _ _ (unwrap_or_cells_more c.args.line c.loop-c.c (search rules)),
-  λ k o t. c.write-cell.ensures.durable k (cell_none c.args.line c.loop-c.c k (search rules) o) (c.loop-c.invariant.1 k o t),
+  λ k o t. c.write_cell.ensures.durable k (cell_none c.args.line c.loop-c.c k (search rules) o) (c.loop-c.invariant.1 k o t),
 )
 
 pub returns : goal.returns

@@ -14,11 +14,11 @@ returns-in-Some g c =
           (ap (λ v. cond (eqb k c.args.address) v None) (sym c.in-Some.is) ∙ o);
     }
 
-pub returns-in-default : goal.returns-in-default
-returns-in-default g c =
+pub returns-in_default : goal.returns-in_default
+returns-in_default g c =
     record {
       bytes =
           laid_one_none 0 c.args.address (g.M.Memory.bytes c.args.below.now)
-          ∙ ap (λ v. laid 0 (λ k. cond (eqb k c.args.address) v None) (g.M.Memory.bytes c.args.below.now)) (sym c.in-default.is);
+          ∙ ap (λ v. laid 0 (λ k. cond (eqb k c.args.address) v None) (g.M.Memory.bytes c.args.below.now)) (sym c.in_default.is);
       durable = λ k o t. t;
     }

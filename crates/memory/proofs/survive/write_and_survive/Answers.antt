@@ -1,4 +1,4 @@
-use Rattle.std.proofs.Common.{◌≡◌, ◌+◌, ◌≤◌, true, length, Ok, sym, ◌∙◌, arith, rules}
+use Rattle.std.proofs.Common.{◌≡◌, true, length, Ok, sym, ◌∙◌, arith, rules}
 use Rattle.std.proofs.lemmas.Bool.{leb-true, le-leb, cond-true, and_from}
 use Rattle.model.specs.Memory.{within, splice}
 use Rattle.model.specs.declared.refusal.Refusal.TheVariants.{OutOfRange}
@@ -9,7 +9,7 @@ use Rattle.memory.proofs.survive.write_and_survive.Goals as goal
 
 pub returns : goal.returns
 returns g c =
-    let w = c.in-ok-write.ensures in
+    let w = c.in_ok-write.ensures in
     let fit = done_within OutOfRange _ w.answer in
     let fit' = leb-true _ _ fit in
     let room : within (g.M.Memory.bytes c.args.memory.now) c.args.at (length c.args.out.now) ≡ true = search rules in

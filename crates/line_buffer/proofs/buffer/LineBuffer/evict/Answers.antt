@@ -6,8 +6,8 @@ use Rattle.line_buffer.proofs.Held.{numbers_removed}
 use Rattle.line_buffer.proofs.WriteBack.{cell_at_line, cell_at_unheld}
 use Rattle.line_buffer.proofs.buffer.LineBuffer.evict.Goals as goal
 
-pub invariant-of-self : goal.invariant-of-self
-invariant-of-self g c =
+pub invariant_of-self : goal.invariant_of-self
+invariant_of-self g c =
     (search rules, (search rules, (ap (λ ls. apart (numbers ls)) c.remove-line.ensures.items ∙ ap apart (numbers_removed (vec_items c.args.self.now.lines) c.args.i) ∙ apart_removed (numbers (vec_items c.args.self.now.lines)) c.args.i c.args.self.now.distinct, tt)))
 
 pub returns : goal.returns
@@ -15,6 +15,6 @@ returns g c =
     let lt : c.args.i < length (vec_items c.args.self.now.lines) = search rules in
     record {
       lines = c.remove-line.ensures.items;
-      bytes = c.write-back.ensures.bytes ∙ laid_same _ _ _ _ (λ k. cell_at_line (vec_items c.args.self.now.lines) c.args.i c.remove-line.result k c.args.self.now.distinct lt c.remove-line.ensures.value);
-      durable = λ k o. c.write-back.ensures.durable k (cell_at_unheld (vec_items c.args.self.now.lines) c.args.i c.remove-line.result k c.args.self.now.distinct lt c.remove-line.ensures.value o);
+      bytes = c.write_back.ensures.bytes ∙ laid_same _ _ _ _ (λ k. cell_at_line (vec_items c.args.self.now.lines) c.args.i c.remove-line.result k c.args.self.now.distinct lt c.remove-line.ensures.value);
+      durable = λ k o. c.write_back.ensures.durable k (cell_at_unheld (vec_items c.args.self.now.lines) c.args.i c.remove-line.result k c.args.self.now.distinct lt c.remove-line.ensures.value o);
     }

@@ -11,5 +11,5 @@ returns g c =
     let xs = g.M.Memory.bytes c.args.self.now.below in
     let fit : c.args.at + length c.args.out.now ≤ length xs = omega (arith, c.requires, length_laid 0 h xs) in
     let done : is_ok c.read.result ≡ true = ap is_ok (c.read.ensures.answer ∙ cond-true _ _ _ (le-leb _ _ fit)) in
-    c.overlay.ensures ∙ ap (λ zs. laid c.args.at (held_at zs) c.read.new.out) c.as-slice.ensures.value
+    c.overlay.ensures ∙ ap (λ zs. laid c.args.at (held_at zs) c.read.new.out) c.as_slice.ensures.value
     ∙ ap (laid c.args.at h) (c.read.ensures.copied ∙ cond-true _ _ _ done) ∙ laid_part h xs c.args.at (length c.args.out.now) fit

@@ -2,8 +2,8 @@ use Rattle.std.proofs.Common.{vec_items, refl, rules}
 use Rattle.line_buffer.proofs.Shown.{apart_none, safe_no_lines, survived_lines}
 use Rattle.line_buffer.proofs.buffer.LineBuffer.forget.Goals as goal
 
-pub invariant-of-self : goal.invariant-of-self
-invariant-of-self g c = (search rules, (search rules, (apart_none (vec_items c.clear.new.self) c.clear.ensures.items, tt)))
+pub invariant_of-self : goal.invariant_of-self
+invariant_of-self g c = (search rules, (search rules, (apart_none (vec_items c.clear.new.self) c.clear.ensures.items, tt)))
 
 pub returns : goal.returns
 returns g c =

@@ -3,11 +3,11 @@ use Rattle.line_buffer.specs.Lines.{line_bytes}
 use Rattle.line_buffer.proofs.Put.{put_held}
 use Rattle.line_buffer.proofs.buffer.LineBuffer.put.Goals as goal
 
-pub invariant-of-self : goal.invariant-of-self
-invariant-of-self g c = (c.hold.ensures.few, (search rules, (c.hold.ensures.distinct, tt)))
+pub invariant_of-self : goal.invariant_of-self
+invariant_of-self g c = (c.hold.ensures.few, (search rules, (c.hold.ensures.distinct, tt)))
 
-pub returns-then-has-place : goal.returns-then-has-place
-returns-then-has-place g c =
+pub returns-then-has_place : goal.returns-then-has_place
+returns-then-has_place g c =
     record {
       back =
           put_held (vec_items c.args.self.now.lines) (g.M.Memory.bytes c.args.self.now.below) c.args.at c.args.from.now c.requires.inside (vec_items c.hold.new.lines) c.hold.ensures.held c.hold.ensures.numbers c.args.last;

@@ -9,8 +9,8 @@ use Rattle.line_buffer.proofs.buffer.LineBuffer.put_all.Goals as goal
 some : (n : ℕ) → (n ≡ 0 → ⊥) → 0 < n
 some n h = search rules
 
-pub returns-then-is-empty : goal.returns-then-is-empty
-returns-then-is-empty g c =
+pub returns-then-is_empty : goal.returns-then-is_empty
+returns-then-is_empty g c =
     let e : length c.args.from.now ≡ 0 = eqb-true _ _ (sym c.if-is-empty.ensures) in
     let ls = vec_items c.args.self.now.lines in
     let xs = g.M.Memory.bytes c.args.self.now.below in
@@ -30,7 +30,7 @@ loop-number-init g c =
 
 pub put-requires : goal.put-requires
 put-requires g c =
-    let n = some (length c.args.from.now) (eqb-false _ _ (sym c.if-is-empty.ensures)) in
+    let n = some (length c.args.from.now) (eqb-false _ _ (sym c.if-is_empty.ensures)) in
     let q = c.loop-number.number in
     let a = c.args.at in
     let last = (a + length c.args.from.now - 1) / line_bytes in
@@ -53,7 +53,7 @@ put-requires g c =
 
 pub loop-number-preserved : goal.loop-number-preserved
 loop-number-preserved g c =
-    let n = some (length c.args.from.now) (eqb-false _ _ (sym c.if-is-empty.ensures)) in
+    let n = some (length c.args.from.now) (eqb-false _ _ (sym c.if-is_empty.ensures)) in
     let q = c.loop-number.number in
     let a = c.args.at in
     let last = (a + length c.args.from.now - 1) / line_bytes in
@@ -81,7 +81,7 @@ loop-number-preserved g c =
 
 pub returns : goal.returns
 returns g c =
-    let n = some (length c.args.from.now) (eqb-false _ _ (sym c.if-is-empty.ensures)) in
+    let n = some (length c.args.from.now) (eqb-false _ _ (sym c.if-is_empty.ensures)) in
     let q = c.loop-number.number in
     let a = c.args.at in
     let from = c.args.from.now in

@@ -18,7 +18,7 @@ pub hold-requires : goal.hold-requires
 hold-requires g c =
     let ls = vec_items c.args.self.now.lines in
     let f = c.in-Some.ensures in
-    let lt : c.in-Some.i < length ls = subst (λ xs. c.in-Some.i < length xs) c.as-slice.ensures.value f.0 in
+    let lt : c.in-Some.i < length ls = subst (λ xs. c.in-Some.i < length xs) c.as_slice.ensures.value f.0 in
     let p = eight_lines ls (c.args.at / line_bytes) (vec_len c.args.self.now.lines) c.requires.full c.args.self.now.lines.ok.0 (omega (arith, c.args.self.now.few)) in
     let room = room_made ls (g.M.Memory.bytes c.args.self.now.below) c.args.at c.args.from.now c.requires.inside c.in-Some.i c.args.self.now.distinct lt p.0 p.1 in
     record {
@@ -30,8 +30,8 @@ hold-requires g c =
       reserved = c.evict.new.self.reserved;
     }
 
-pub invariant-of-self : goal.invariant-of-self
-invariant-of-self g c = (c.hold.ensures.few, (search rules, (c.hold.ensures.distinct, tt)))
+pub invariant_of-self : goal.invariant_of-self
+invariant_of-self g c = (c.hold.ensures.few, (search rules, (c.hold.ensures.distinct, tt)))
 
 pub returns-in-Some : goal.returns-in-Some
 returns-in-Some g c =
@@ -42,9 +42,9 @@ returns-in-Some g c =
     let i = c.in-Some.i in
     let ls' = vec_items c.hold.new.lines in
     let f = c.in-Some.ensures in
-    let lt : i < length ls = subst (λ xs. i < length xs) c.as-slice.ensures.value f.0 in
+    let lt : i < length ls = subst (λ xs. i < length xs) c.as_slice.ensures.value f.0 in
     let out : (get_or (numbers ls) i 0 < a / line_bytes) ⊎ (c.args.last < get_or (numbers ls) i 0) =
-    subst (λ xs. (get_or (numbers xs) i 0 < a / line_bytes) ⊎ (c.args.last < get_or (numbers xs) i 0)) c.as-slice.ensures.value f.1 in
+    subst (λ xs. (get_or (numbers xs) i 0 < a / line_bytes) ⊎ (c.args.last < get_or (numbers xs) i 0)) c.as_slice.ensures.value f.1 in
     let p = eight_lines ls (a / line_bytes) (vec_len c.args.self.now.lines) c.requires.full c.args.self.now.lines.ok.0 (omega (arith, c.args.self.now.few)) in
     let e = c.evict.ensures.lines in
     let h : (k : ℕ) → held_at ls' k ≡ written (held_at (remove ls i)) a ys k =

@@ -8,7 +8,7 @@ loop-c-init c = laid_nothing _ _ _ (cells_below_none c.args.self)
 
 pub loop-c-preserved : goal.loop-c-preserved
 loop-c-preserved c =
-    c.lay-cell.ensures ∙ ap (laid c.args.at _) c.loop-c.invariant ∙ laid_laid _ _ _ _ _ (unwrap_or_cells_more c.args.self c.loop-c.c (search rules))
+    c.lay_cell.ensures ∙ ap (laid c.args.at _) c.loop-c.invariant ∙ laid_laid _ _ _ _ _ (unwrap_or_cells_more c.args.self c.loop-c.c (search rules))
 
 pub returns : goal.returns
 returns c = c.loop-c.invariant ∙ laid_same _ _ _ _ (λ k. cells_below_all c.args.self c.loop-c.c k (search rules))
