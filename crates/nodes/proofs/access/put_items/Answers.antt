@@ -22,7 +22,7 @@ loop-item-preserved g c = (
   tt,
   λ j. remaining_more (put (item_meaning c.in-Some.item)) _ _ _ _ _ _ _ _ _ _ _ _
       (puts_taken c.args.selection (item_meaning c.in-Some.item) _ _ c.in-Some.ensures.steps (sym c.takes.ensures ∙ c.if-not-takes.false))
-      (c.put-counted.ensures j)
+      (c.put_counted.ensures j)
       (c.loop-item.invariant.2 j),
 )
 

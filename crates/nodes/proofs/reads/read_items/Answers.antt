@@ -14,15 +14,15 @@ use Rattle.nodes.proofs.reads.read_items.Goals as goal
 
 pub loop-item-init : goal.loop-item-init
 loop-item-init g c =
-    let start = c.into-iter-item-iterator.ensures.into-iter-gives in (
+    let start = c.into_iter-item-iterator.ensures.into_iter_gives in (
       tt,
       tt,
       ap₂ (λ l (it : Items). l ++ read_items (g.M.Memory.bytes c.args.memory.now) (items_meaning it)) c.none-reads.ensures.bytes start,
       omega (arith, c.none-reads.ensures.count, ap (λ (it : Items). length (items_meaning it)) start),
     )
 
-pub read-item-reads-requires : goal.read-item-reads-requires
-read-item-reads-requires g c = (
+pub read_item-reads-requires : goal.read_item-reads-requires
+read_item-reads-requires g c = (
   omega (arith, ap length c.in-Some.ensures.steps, c.loop-item.invariant.3),
   (and_parts _ _ (sym (are_more (item_meaning c.in-Some.item) (items_meaning c.next.new.self))
       ∙ sym (ap are_items c.in-Some.ensures.steps)
@@ -33,8 +33,8 @@ pub loop-item-preserved : goal.loop-item-preserved
 loop-item-preserved g c = (
   tt,
   tt,
-  reading_more (g.M.Memory.bytes c.args.memory.now) (item_meaning c.in-Some.item) _ _ _ _ _ c.in-Some.ensures.steps c.loop-item.invariant.2 c.read-item-reads.ensures.bytes,
-  omega (arith, ap length c.in-Some.ensures.steps, c.loop-item.invariant.3, c.read-item-reads.ensures.count),
+  reading_more (g.M.Memory.bytes c.args.memory.now) (item_meaning c.in-Some.item) _ _ _ _ _ c.in-Some.ensures.steps c.loop-item.invariant.2 c.read_item-reads.ensures.bytes,
+  omega (arith, ap length c.in-Some.ensures.steps, c.loop-item.invariant.3, c.read_item-reads.ensures.count),
 )
 
 pub returns : goal.returns

@@ -6,8 +6,8 @@ use Rattle.nodes.specs.Tables.{doubt_meaning, standing_doubts, no_record, found_
 use Rattle.nodes.proofs.Places.{got_found, got_past, got_none}
 use Rattle.nodes.proofs.doubts.Doubts.get.Goals as goal
 
-pub returns-in-default : goal.returns-in-default
-returns-in-default c = got_none doubt_meaning doubt_tid no_doubt c.args.tid (standing_doubts c.args.self.now) c.in-default.ensures
+pub returns-in_default : goal.returns-in_default
+returns-in_default c = got_none doubt_meaning doubt_tid no_doubt c.args.tid (standing_doubts c.args.self.now) c.in_default.ensures
 
 pub returns-then-place-standing : goal.returns-then-place-standing
 returns-then-place-standing c =

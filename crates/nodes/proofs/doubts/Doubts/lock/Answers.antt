@@ -8,19 +8,19 @@ use Rattle.nodes.specs.Tables.{doubt_meaning, no_record}
 use Rattle.nodes.proofs.Turns.{some_hit, some_pass, some_end}
 use Rattle.nodes.proofs.doubts.Doubts.lock.Goals as goal
 
-pub returns-then-lists-clash : goal.returns-then-lists-clash
-returns-then-lists-clash c =
+pub returns-then-lists_clash : goal.returns-then-lists_clash
+returns-then-lists_clash c =
     some_hit (λ (d : PlainDoubt). clashing d.items (items_meaning c.args.items)) (doubt_meaning (get_or c.standing-doubt-items.result.now c.loop-doubt.doubt-index no_record)) _ _ _
     (at_drop_more (map doubt_meaning) c.standing-doubt-items.result.now c.loop-doubt.doubt-index no_record c.loop-doubt-test.true)
     c.loop-doubt.invariant
-    (ap (λ is. clashing is (items_meaning c.args.items)) (sym c.items.ensures) ∙ sym c.lists-clash.ensures ∙ c.if-lists-clash.true)
+    (ap (λ is. clashing is (items_meaning c.args.items)) (sym c.items.ensures) ∙ sym c.lists_clash.ensures ∙ c.if-lists_clash.true)
 
 pub loop-doubt-preserved : goal.loop-doubt-preserved
 loop-doubt-preserved c =
     some_pass (λ (d : PlainDoubt). clashing d.items (items_meaning c.args.items)) (doubt_meaning (get_or c.standing-doubt-items.result.now c.loop-doubt.doubt-index no_record)) _ _ _
     (at_drop_more (map doubt_meaning) c.standing-doubt-items.result.now c.loop-doubt.doubt-index no_record c.loop-doubt-test.true)
     c.loop-doubt.invariant
-    (ap (λ is. clashing is (items_meaning c.args.items)) (sym c.items.ensures) ∙ sym c.lists-clash.ensures ∙ c.if-lists-clash.false)
+    (ap (λ is. clashing is (items_meaning c.args.items)) (sym c.items.ensures) ∙ sym c.lists_clash.ensures ∙ c.if-lists_clash.false)
 
 pub returns : goal.returns
 returns c =

@@ -6,7 +6,7 @@ use Rattle.nodes.proofs.doubts.Doubts.remove.Goals as goal
 
 pub returns-then-place-count : goal.returns-then-place-count
 returns-then-place-count c =
-    ap (λ all. map doubt_meaning (take (c.len-count.result - 1) all)) c.copy-within.ensures.after
+    ap (λ all. map doubt_meaning (take (c.len-count.result - 1) all)) c.copy_within.ensures.after
     ∙ ap (map doubt_meaning) (front_removed c.args.self.now.records c.args.self.now.count c.len-count.result c.args.place (omega (arith, c.len-count.ensures.bound)) (omega arith) c.len-count.ensures.front)
     ∙ map_removed doubt_meaning _ c.args.place
 

@@ -6,8 +6,8 @@ use Rattle.nodes.specs.Tables.{unresolved_meaning, standing_unresolved, no_findi
 use Rattle.nodes.proofs.Places.{got_found, got_past, got_none}
 use Rattle.nodes.proofs.unresolved.UnresolvedTable.get.Goals as goal
 
-pub returns-in-default : goal.returns-in-default
-returns-in-default c = got_none unresolved_meaning unresolved_tid no_unresolved c.args.tid (standing_unresolved c.args.self.now) c.in-default.ensures
+pub returns-in_default : goal.returns-in_default
+returns-in_default c = got_none unresolved_meaning unresolved_tid no_unresolved c.args.tid (standing_unresolved c.args.self.now) c.in_default.ensures
 
 pub returns-then-place-standing : goal.returns-then-place-standing
 returns-then-place-standing c =
