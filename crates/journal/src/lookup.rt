@@ -11,8 +11,8 @@ use crate::view::EntryView;
 
 /// The place of the first entry of a tid, if there is one. It costs a look at each entry up to it.
 pub fn place_of<J: Journal>(journal: &J, tid: u16) -> Option<J::Place>
-    ensures stands { is_some result ≡ has_entry (log journal.now) tid }
-    ensures place { IfSome result (λ p. position journal.now p ≡ place tid_of tid (log journal.now).entries) }
+    ensures stands { is_some result ≡ has_entry (J.log journal.now) tid }
+    ensures place { IfSome result (λ p. J.position journal.now p ≡ place tid_of tid (J.log journal.now).entries) }
 {
     for index in 0..journal.count() {
         let Some(place) = journal.place(index) else {
@@ -30,7 +30,7 @@ pub fn place_of<J: Journal>(journal: &J, tid: u16) -> Option<J::Place>
 
 /// The first entry of a tid, if there is one.
 pub fn entry_of<'a, J: Journal>(journal: &'a J, tid: u16) -> Option<EntryView<'a>>
-    ensures { option_map entry_meaning result ≡ (if has_entry (log journal.now) tid then Some (entry_of (log journal.now) tid) else None) }
+    ensures { option_map entry_meaning result ≡ (if has_entry (J.log journal.now) tid then Some (entry_of (J.log journal.now) tid) else None) }
 {
     match place_of(journal, tid) {
         Some(place) => journal.entry(place),

@@ -18,8 +18,8 @@ pub fn enter_and_retire<J: Journal>(
     writes: &WriteSet,
     commits: bool,
 ) -> Result<(), Refusal>
-    ensures answer { result ≡ (if is_full (log journal.old) then Err NoRoom else Ok tt) }
-    ensures log { log journal.new ≡ (if is_full (log journal.old) then log journal.old else dropped (flushed (noted (added (log journal.old) tid participants (writes_of writes.now)) tid commits))) }
+    ensures answer { result ≡ (if is_full (J.log journal.old) then Err NoRoom else Ok tt) }
+    ensures log { J.log journal.new ≡ (if is_full (J.log journal.old) then J.log journal.old else dropped (flushed (noted (added (J.log journal.old) tid participants (writes_of writes.now)) tid commits))) }
 {
     journal.add(tid, participants, writes)?;
     journal.note(tid, commits)?;

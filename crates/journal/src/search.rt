@@ -24,7 +24,7 @@ impl Numbered for u16 {
 
 /// The place of the first element that has a number, if one has it.
 pub fn find<T: Numbered>(elements: &[T], wanted: u16) -> Option<usize>
-    ensures { result ≡ place_in numbered wanted elements.now }
+    ensures { result ≡ place_in T.numbered wanted elements.now }
 {
     for (place, element) in elements.iter().enumerate() {
         if element.number() == wanted {

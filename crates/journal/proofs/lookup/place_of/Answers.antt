@@ -4,11 +4,11 @@ use Rattle.journal.specs.Entries.{entry_meaning}
 use Rattle.journal.proofs.Looking.{nth_stands, looked_here, looked_past}
 use Rattle.journal.proofs.lookup.place_of.Goals as goal
 
-pub returns-in-default-entry : goal.returns-in-default-entry
-returns-in-default-entry g c =
+pub returns-in_default-entry : goal.returns-in_default-entry
+returns-in_default-entry g c =
     let es = (g.J.Journal.log c.args.journal.now).entries
     in let within : c.loop-index.index < length es = search rules
-    in absurd (nth_stands es _ c.loop-index.index c.in-Some.ensures.place within c.in-default-entry.ensures)
+    in absurd (nth_stands es _ c.loop-index.index c.in-Some.ensures.place within c.in_default-entry.ensures)
 
 pub returns-then-entry-tid : goal.returns-then-entry-tid
 returns-then-entry-tid g c =

@@ -5,5 +5,5 @@ use Rattle.journal.proofs.table.make_durable.Given as goal
 
 abbrev pub invariant-loop-index : goal.invariant-loop-index
 invariant-loop-index l =
-    (vec_items l.entries ≡ map (durable_entry l.keeps-pending) (take l.index (vec_items l.initial.entries)) ++ drop l.index (vec_items l.initial.entries)) ×
+    (vec_items l.entries ≡ map (durable_entry l.keeps_pending) (take l.index (vec_items l.initial.entries)) ++ drop l.index (vec_items l.initial.entries)) ×
     (vec_len l.entries ≡ vec_len l.initial.entries) × (vec_capacity l.entries ≡ vec_capacity l.initial.entries)

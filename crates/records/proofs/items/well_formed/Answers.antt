@@ -1,5 +1,5 @@
 -- The loop follows the steps of reading.
-use Rattle.std.proofs.Common.{◌≡◌, ◌<◌, is_some, sym, refl, ap, ◌∙◌, arith}
+use Rattle.std.proofs.Common.{◌≡◌, ◌<◌, is_some, sym, ap, ◌∙◌, arith}
 use Rattle.model.proofs.ItemSteps.{decode_none, decode_stuck, decode_more, mapped_is_some}
 use Rattle.model.specs.ItemFormat.{decode_items}
 use Rattle.records.proofs.items.well_formed.Goals as goal

@@ -1,5 +1,5 @@
 -- Each turn adds the next item's size.
-use Rattle.std.proofs.Common.{◌≡◌, ℕ, ◌+◌, ◌<◌, ◌≤◌, length, ap, arith}
+use Rattle.std.proofs.Common.{◌≤◌, length, ap, arith}
 use Rattle.records.specs.Meaning.{item_meaning}
 use Rattle.records.specs.Cursor.{items_meaning}
 use Rattle.records.proofs.Sizing.{size_bound, sizing_more, sizing_stuck, sizing_all, extent_none, extent_some}

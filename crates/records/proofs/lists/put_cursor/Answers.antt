@@ -1,5 +1,5 @@
 -- Each turn puts the next item behind the last one.
-use Rattle.std.proofs.Common.{ℕ, ◌+◌, ◌≤◌, length, arith}
+use Rattle.std.proofs.Common.{◌+◌, ◌≤◌, length, arith}
 use Rattle.model.specs.ItemFormat.{encode_items}
 use Rattle.records.specs.Meaning.{item_meaning}
 use Rattle.records.specs.Cursor.{items_meaning}

@@ -1,5 +1,5 @@
 -- The count and the items make up the list.
-use Rattle.std.proofs.Common.{◌≡◌, ℕ, ◌+◌, ◌≤◌, cond, List, [], ◌∷◌, length, sym, ap, ◌∙◌, arith}
+use Rattle.std.proofs.Common.{◌≡◌, ◌+◌, ◌≤◌, cond, [], ◌∷◌, length, sym, ap, ◌∙◌, arith}
 use Rattle.model.specs.Bytes.{splice, placed}
 use Rattle.model.specs.ItemFormat.{encode_items, encode_list}
 use Rattle.model.proofs.Splices.{splice_more, placed_fits}

@@ -1,5 +1,5 @@
 -- Each turn puts the next item behind the last one.
-use Rattle.std.proofs.Common.{◌≡◌, ℕ, ◌+◌, ◌≤◌, map, length, get_or, arith}
+use Rattle.std.proofs.Common.{◌+◌, ◌≤◌, map, length, get_or, arith}
 use Rattle.std.proofs.lemmas.List.{at_drop_all}
 use Rattle.model.specs.ItemFormat.{encode_items}
 use Rattle.records.specs.Meaning.{item_meaning, no_item}

@@ -1,5 +1,5 @@
 -- Each turn adds the next item's size.
-use Rattle.std.proofs.Common.{◌≡◌, ℕ, ◌+◌, ◌<◌, ◌≤◌, map, length, get_or, sym, ap, inl, inr, arith}
+use Rattle.std.proofs.Common.{map, get_or, inl, inr, arith}
 use lib.ListN.{length-map}
 use Rattle.std.proofs.lemmas.List.{at_drop_all}
 use Rattle.records.specs.Meaning.{item_meaning, no_item}

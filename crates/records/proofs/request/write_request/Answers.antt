@@ -1,5 +1,5 @@
 -- The head, the count and the items make up the request.
-use Rattle.std.proofs.Common.{◌≡◌, ℕ, ◌+◌, ◌<◌, ◌≤◌, List, [], ◌∷◌, ◌++◌, map, length, drop, Ok, Result, sym, ap, ◌∙◌, ap₂, arith}
+use Rattle.std.proofs.Common.{◌≡◌, ℕ, ◌+◌, ◌<◌, ◌≤◌, List, [], ◌∷◌, ◌++◌, map, length, Ok, Result, sym, ap, ◌∙◌, ap₂, arith}
 use lib.ListN.{length-map}
 use Rattle.model.specs.Bytes.{splice, placed}
 use Rattle.model.specs.ItemFormat.{be16, encode_items, is_list}
@@ -7,8 +7,8 @@ use Rattle.model.specs.declared.refusal.Refusal.{Refusal}
 use Rattle.model.specs.Requests.{encode_request, decode_request, version}
 use Rattle.model.specs.Written.{written}
 use Rattle.model.proofs.ReadsBack.{request_back, written_take}
-use Rattle.model.proofs.RequestLaws.{list_sized, list_items, list_few, list_bound, request_length, written_short, written_done}
-use Rattle.model.proofs.Splices.{splice_start, splice_more, placed_more, length_splice}
+use Rattle.model.proofs.RequestLaws.{list_sized, list_few, list_bound, request_length, written_short, written_done}
+use Rattle.model.proofs.Splices.{splice_start, splice_more, placed_more}
 use Rattle.records.specs.Meaning.{item_meaning}
 use Rattle.records.proofs.request.write_request.Goals as goal
 

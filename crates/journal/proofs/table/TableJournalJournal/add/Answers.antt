@@ -21,7 +21,7 @@ returns g c =
     in let log = table_log (vec_items t.entries) (vec_items t.forced) t.pointer t.highest t.capacity
     in let n : c.len-place.result ≡ length (map stored_entry (vec_items t.entries)) = search (rules, length-map)
     in let room : is_full log ≡ false = sym (ap (λ k. leb t.capacity k || leb 65535 t.highest) n) ∙ sym c.full.ensures ∙ c.if-full.false
-    in let entries = ap (map stored_entry) c.push-reserved.ensures.items ∙ map_push stored_entry (vec_items t.entries) _
+    in let entries = ap (map stored_entry) c.push_reserved.ensures.items ∙ map_push stored_entry (vec_items t.entries) _
     in record {
       answer = sym (ap not room);
       refusal = tt;

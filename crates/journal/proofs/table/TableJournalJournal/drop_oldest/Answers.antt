@@ -6,8 +6,8 @@ use Rattle.journal.specs.Tables.{table_log}
 use Rattle.journal.proofs.Tables.{dropped_none}
 use Rattle.journal.proofs.table.TableJournalJournal.drop_oldest.Goals as goal
 
-pub returns-then-is-empty : goal.returns-then-is-empty
-returns-then-is-empty g c =
+pub returns-then-is_empty : goal.returns-then-is_empty
+returns-then-is_empty g c =
     let t = c.args.self.now
     in let log = table_log (vec_items t.entries) (vec_items t.forced) t.pointer t.highest t.capacity
     in let n : length (vec_items t.entries) ≡ 0 = search (rules, eqb-true)

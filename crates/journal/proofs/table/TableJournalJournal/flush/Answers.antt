@@ -10,4 +10,4 @@ pub returns : goal.returns
 returns g c =
     let t = c.args.self.now
     in let log = table_log (vec_items t.entries) (vec_items t.forced) t.pointer t.highest t.capacity
-    in ap (with_entries log) (ap (map stored_entry) c.make-durable.ensures.items ∙ durable_flushed (vec_items t.entries))
+    in ap (with_entries log) (ap (map stored_entry) c.make_durable.ensures.items ∙ durable_flushed (vec_items t.entries))

@@ -11,7 +11,7 @@ pub returns : goal.returns
 returns g c =
     let t = c.args.self.now
     in let log = table_log (vec_items t.entries) (vec_items t.forced) t.pointer t.highest t.capacity
-    in let holds = ap (with_entries log) (ap (map stored_entry) c.make-durable.ensures.items ∙ durable_lost (vec_items t.entries))
+    in let holds = ap (with_entries log) (ap (map stored_entry) c.make_durable.ensures.items ∙ durable_lost (vec_items t.entries))
     in record {
       restarted = record { left = only_durable log.entries; allowed = durable_left log.entries; holds = holds };
       log = holds;

@@ -11,44 +11,44 @@ pub loop-item-init : goal.loop-item-init
 loop-item-init c = (
   tt,
   tt,
-  keeping_none _ _ _ (ap items_meaning c.into-iter-item-iterator.ensures.into-iter-gives)
+  keeping_none _ _ _ (ap items_meaning c.into_iter-item-iterator.ensures.into_iter_gives)
       (taken_form c.args.items.left c.args.items.bytes.now)
       refl,
 )
 
-pub loop-item-preserved-then-not-is-write : goal.loop-item-preserved-then-not-is-write
-loop-item-preserved-then-not-is-write c = (
+pub loop-item-preserved-then-not-is_write : goal.loop-item-preserved-then-not-is_write
+loop-item-preserved-then-not-is_write c = (
   tt,
   tt,
   keeping_skip _ _ _ c.loop-item.count c.loop-item.end c.loop-item.bytes (item_meaning c.in-Some.item)
       c.in-Some.ensures.steps
-      (sym c.is-write.ensures ∙ c.if-not-is-write.true)
+      (sym c.is_write.ensures ∙ c.if-not-is_write.true)
       c.loop-item.invariant.2,
 )
 
-pub returns-then-count-eq-MOST-ITEMS : goal.returns-then-count-eq-MOST-ITEMS
-returns-then-count-eq-MOST-ITEMS c =
-    keeping_full _ _ c.loop-item.count c.loop-item.end c.loop-item.bytes c.if-count-eq-MOST-ITEMS.true c.loop-item.invariant.2
+pub returns-then-count-eq-MOST_ITEMS : goal.returns-then-count-eq-MOST_ITEMS
+returns-then-count-eq-MOST_ITEMS c =
+    keeping_full _ _ c.loop-item.count c.loop-item.end c.loop-item.bytes c.if-count-eq-MOST_ITEMS.true c.loop-item.invariant.2
 
-pub loop-item-preserved-in-default : goal.loop-item-preserved-in-default
-loop-item-preserved-in-default c =
-    absurd (put_not _ _ c.in-default.ensures.end
+pub loop-item-preserved-in_default : goal.loop-item-preserved-in_default
+loop-item-preserved-in_default c =
+    absurd (put_not _ _ c.in_default.ensures.end
     (keeping_room _ _ _ c.loop-item.count c.loop-item.end c.loop-item.bytes (item_meaning c.in-Some.item)
     c.in-Some.ensures.steps
-    c.if-count-eq-MOST-ITEMS.false
+    c.if-count-eq-MOST_ITEMS.false
     c.loop-item.invariant.2).1.1)
 
 pub loop-item-preserved : goal.loop-item-preserved
 loop-item-preserved c = (
   tt,
   tt,
-  keeping_more _ _ _ c.loop-item.count c.loop-item.end _ c.loop-item.bytes c.put-one.new.buffer
+  keeping_more _ _ _ c.loop-item.count c.loop-item.end _ c.loop-item.bytes c.put_one.new.buffer
       (item_meaning c.in-Some.item)
       c.in-Some.ensures.steps
-      (sym c.is-write.ensures ∙ c.if-not-is-write.false)
-      c.if-count-eq-MOST-ITEMS.false
-      (put_at _ _ _ c.in-Some-put-one.ensures.end)
-      c.in-Some-put-one.ensures.bytes
+      (sym c.is_write.ensures ∙ c.if-not-is_write.false)
+      c.if-count-eq-MOST_ITEMS.false
+      (put_at _ _ _ c.in-Some-put_one.ensures.end)
+      c.in-Some-put_one.ensures.bytes
       c.loop-item.invariant.2,
 )
 

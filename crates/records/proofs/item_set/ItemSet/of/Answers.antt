@@ -1,5 +1,5 @@
 -- Each turn keeps the next item, if it is selected.
-use Rattle.std.proofs.Common.{◌≡◌, sym, refl, ap, ◌∙◌}
+use Rattle.std.proofs.Common.{sym, refl, ap, ◌∙◌}
 use Rattle.records.specs.Meaning.{item_meaning}
 use Rattle.records.specs.Cursor.{items_meaning}
 use Rattle.records.specs.ItemSets.{selected}

@@ -1,5 +1,5 @@
 -- Each turn counts the next item.
-use Rattle.std.proofs.Common.{◌≡◌, ◌+◌, ◌≤◌, length, ap, arith}
+use Rattle.std.proofs.Common.{length, ap, arith}
 use Rattle.model.proofs.ItemSteps.{take_bound}
 use Rattle.records.proofs.items.Items.len.Goals as goal
 

@@ -1,5 +1,5 @@
 -- What was counted and what is left make up the whole, which is no longer than the cursor says.
-use Rattle.std.proofs.Common.{◌≡◌, ◌+◌, ◌≤◌, length}
+use Rattle.std.proofs.Common.{◌≡◌, ◌+◌, length}
 use Rattle.records.specs.Cursor.{items_meaning}
 use Rattle.records.proofs.items.Items.len.Given as goal
 

@@ -1,5 +1,5 @@
 -- A step of the cursor follows the step of reading.
-use Rattle.std.proofs.Common.{◌≡◌, ◌<◌, sym, refl, ap, ◌∙◌, arith}
+use Rattle.std.proofs.Common.{◌<◌, sym, refl, ap, ◌∙◌, arith}
 use Rattle.model.proofs.ItemSteps.{take_none, take_stuck, take_more}
 use Rattle.model.specs.ItemFormat.{take_items}
 use Rattle.records.proofs.items.Items.next_item.Goals as goal

@@ -1,5 +1,5 @@
 -- A list that is well formed is read item by item.
-use Rattle.std.proofs.Common.{◌≡◌, true, is_some, sym, refl, ap, ◌∙◌, arith}
+use Rattle.std.proofs.Common.{sym, arith}
 use Rattle.std.proofs.lemmas.Bool.Decides.{nat_tests}
 use Rattle.model.proofs.ItemSteps.{decoded_take}
 use Rattle.records.proofs.items.Items.parse.Goals as goal
