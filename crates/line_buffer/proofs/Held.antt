@@ -1,10 +1,10 @@
 -- Laws of `held_at`: no line, one line changed, added or taken out.
-use Rattle.std.proofs.Common.{◌≡◌, ℕ, zero, suc, ◌+◌, ◌-◌, ◌/◌, ◌%◌, ◌<◌, ◌≤◌, Bool, true, false, cond, not, ◌&&◌, ◌||◌, eqb, ◌⊎◌, List, [], ◌∷◌, ◌++◌, map, length, get_or, take, drop, set, Some, None, Option, sym, refl, ap, ◌∙◌, inl, inr, ⊎_elim, arith, rules}
+use Rattle.std.proofs.Common.{◌≡◌, ℕ, zero, suc, ◌/◌, ◌%◌, ◌<◌, true, false, cond, not, eqb, List, [], ◌∷◌, ◌++◌, map, length, get_or, take, drop, set, None, sym, refl, ap, ◌∙◌, ⊎_elim, arith}
 use Rattle.std.specs.List.{remove}
-use Rattle.std.proofs.lemmas.List.{map-set, map-append, take-map, drop-map, set-get_or, length-map}
-use Rattle.std.proofs.lemmas.Bool.{and_parts, or_parts, not-true, eqb-true, eqb-false, eq-eqb, ne_eqb, both_ways, cases_eq, cases_Bool, cond-true, cond-false, cond_both}
+use Rattle.std.proofs.lemmas.List.{map-append, take-map, drop-map, length-map}
+use Rattle.std.proofs.lemmas.Bool.{and_parts, or_parts, not-true, eqb-true, eqb-false, eq-eqb, ne_eqb, both_ways, cases_eq, cond-true, cond-false}
 use Rattle.line_buffer.specs.declared.line.Line.{Line}
-use Rattle.line_buffer.specs.Lines.{line_bytes, line_number, numbers, member, apart, cell_at, held_at}
+use Rattle.line_buffer.specs.Lines.{line_bytes, line_number, numbers, member, apart, held_at}
 use Rattle.line_buffer.proofs.Distinct.{get_or_member}
 
 pub held_at_none : (ls : List Line) (k : ℕ) → member (k / line_bytes) (numbers ls) ≡ false → held_at ls k ≡ None

@@ -1,10 +1,10 @@
 -- What is held after bytes of one line are written into it, where it was held and where it is new; and the lines one by one.
-use Rattle.std.proofs.Common.{◌≡◌, ℕ, ◌+◌, ◌/◌, ◌%◌, ◌<◌, ◌≤◌, Bool, true, false, cond, ◌||◌, eqb, ltb, List, [], ◌∷◌, ◌++◌, map, length, get_or, take, set, replicate, Some, None, Option, unwrap_or, sym, refl, ap, ◌∙◌, subst, ⊎_elim, arith}
-use Rattle.std.proofs.lemmas.List.{take-map, take_more, get_or-map, map-set, map-append, set-get_or, length-map, length-replicate, get_or-replicate}
+use Rattle.std.proofs.Common.{◌≡◌, ℕ, ◌+◌, ◌/◌, ◌%◌, ◌<◌, ◌≤◌, true, false, cond, eqb, List, [], ◌∷◌, ◌++◌, map, length, get_or, take, set, replicate, Some, None, unwrap_or, sym, refl, ap, ◌∙◌, subst, ⊎_elim, arith}
+use Rattle.std.proofs.lemmas.List.{take-map, take_more, get_or-map, map-set, map-append, set-get_or, length-map, get_or-replicate}
 use Rattle.std.proofs.lemmas.Bool.{cases_eq, cond-true, cond-false, eq-eqb, ne_eqb}
 use Rattle.model.specs.Memory.{splice}
 use Rattle.line_buffer.specs.declared.line.Line.{Line}
-use Rattle.line_buffer.specs.Lines.{line_bytes, most_lines, line_number, numbers, member, apart, cell_at, held_at, written, takes}
+use Rattle.line_buffer.specs.Lines.{line_bytes, line_number, numbers, member, apart, cell_at, held_at, written}
 use Rattle.line_buffer.proofs.Distinct.{get_or_member, member_take}
 use Rattle.line_buffer.proofs.Held.{held_at_none, held_at_at, held_at_set, held_at_push, get_or_numbers}
 use Rattle.line_buffer.proofs.Cells.{written_line}

@@ -1,4 +1,4 @@
-use Rattle.std.proofs.Common.{◌≡◌, length, get_or, take, set, sym, refl, ap, ◌∙◌, arith, rules}
+use Rattle.std.proofs.Common.{sym, ap, ◌∙◌}
 use Rattle.std.proofs.lemmas.List.{take_all, map_more, get_or-map}
 use Rattle.std.proofs.lemmas.Bool.{or_from, ne_eqb}
 use Rattle.line_buffer.specs.Lines.{line_number, numbers, member}

@@ -1,7 +1,7 @@
-use Rattle.std.proofs.Common.{◌≡◌, ℕ, ◌+◌, ◌/◌, ◌<◌, true, false, ltb, List, length, get_or, vec_items, vec_len, sym, refl, ap, ◌∙◌, subst, ⊎_elim, arith, rules}
+use Rattle.std.proofs.Common.{◌≡◌, ℕ, ◌/◌, ◌<◌, true, false, List, length, get_or, vec_items, sym, refl, ap, ◌∙◌, subst, ⊎_elim, arith}
 use Rattle.std.proofs.lemmas.List.{length-map}
 use Rattle.std.proofs.lemmas.Bool.{or_cases, both_ways, ltb-true}
-use Rattle.line_buffer.specs.Lines.{line_bytes, most_lines, line_number, numbers, member, held_at, written, takes}
+use Rattle.line_buffer.specs.Lines.{line_bytes, most_lines, line_number, numbers, member, held_at, takes}
 use Rattle.line_buffer.specs.declared.line.Line.{Line}
 use Rattle.line_buffer.proofs.Distinct.{apart_added}
 use Rattle.line_buffer.proofs.Held.{get_or_numbers}
@@ -18,7 +18,7 @@ pub push_reserved-requires : goal.push_reserved-requires
 push_reserved-requires c =
     let ls = vec_items c.args.lines.now in
     let o : member (c.args.at / line_bytes) (numbers ls) ≡ false =
-    ap (λ xs. member (c.args.at / line_bytes) (numbers xs)) (sym c.as-slice.ensures.value) ∙ c.in-None.ensures in
+    ap (λ xs. member (c.args.at / line_bytes) (numbers xs)) (sym c.as_slice.ensures.value) ∙ c.in-None.ensures in
     omega (arith, few_lines ls (c.args.at / line_bytes) c.requires.room o, c.args.lines.now.ok.0, c.requires.reserved)
 
 pub returns-in-Some : goal.returns-in-Some

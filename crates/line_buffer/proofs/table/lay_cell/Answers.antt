@@ -1,4 +1,4 @@
-use Rattle.std.proofs.Common.{◌≡◌, ◌-◌, ◌<◌, ◌≤◌, cond, eqb, length, Some, None, Option, sym, ap, ◌∙◌, arith}
+use Rattle.std.proofs.Common.{◌-◌, ◌<◌, ◌≤◌, cond, eqb, length, None, sym, ap, ◌∙◌, arith}
 use Rattle.line_buffer.specs.Lines.{laid}
 use Rattle.line_buffer.proofs.Laid.{laid_one, laid_one_outside, laid_one_none}
 use Rattle.line_buffer.proofs.table.lay_cell.Goals as goal

@@ -1,4 +1,4 @@
-use Rattle.std.proofs.Common.{◌<◌, [], sym, subst, inl, inr, arith}
+use Rattle.std.proofs.Common.{[], inl, inr, arith}
 use Rattle.std.proofs.lemmas.List.{get_or-map}
 use Rattle.line_buffer.specs.Lines.{line_number}
 use Rattle.line_buffer.proofs.table.oldest_outside.Goals as goal

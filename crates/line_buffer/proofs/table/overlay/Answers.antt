@@ -1,4 +1,4 @@
-use Rattle.std.proofs.Common.{◌≡◌, sym, ap, ◌∙◌}
+use Rattle.std.proofs.Common.{ap, ◌∙◌}
 use Rattle.std.proofs.lemmas.List.{take_all}
 use Rattle.line_buffer.specs.Lines.{laid, held_at}
 use Rattle.line_buffer.proofs.Laid.{laid_laid, laid_nothing}

@@ -1,4 +1,4 @@
-use Rattle.std.proofs.Common.{◌≡◌, true, cond, eqb, Some, None, sym, ap, ◌∙◌, subst}
+use Rattle.std.proofs.Common.{cond, eqb, None, sym, ap, ◌∙◌}
 use Rattle.line_buffer.specs.Lines.{laid}
 use Rattle.line_buffer.proofs.Laid.{laid_one_none}
 use Rattle.line_buffer.proofs.WriteBack.{laid_write_one, kept_write_one}

@@ -1,5 +1,5 @@
-use Rattle.std.proofs.Common.{◌≡◌, ◌<◌, length, vec_items, sym, ap, ◌∙◌, subst, arith, rules}
-use Rattle.line_buffer.specs.Lines.{laid, numbers, apart}
+use Rattle.std.proofs.Common.{◌<◌, length, vec_items, ap, ◌∙◌, rules}
+use Rattle.line_buffer.specs.Lines.{numbers, apart}
 use Rattle.line_buffer.proofs.Laid.{laid_same}
 use Rattle.line_buffer.proofs.Distinct.{apart_removed}
 use Rattle.line_buffer.proofs.Held.{numbers_removed}
@@ -8,7 +8,13 @@ use Rattle.line_buffer.proofs.buffer.LineBuffer.evict.Goals as goal
 
 pub invariant_of-self : goal.invariant_of-self
 invariant_of-self g c =
-    (search rules, (search rules, (ap (λ ls. apart (numbers ls)) c.remove-line.ensures.items ∙ ap apart (numbers_removed (vec_items c.args.self.now.lines) c.args.i) ∙ apart_removed (numbers (vec_items c.args.self.now.lines)) c.args.i c.args.self.now.distinct, tt)))
+    record {
+      few = search rules;
+      reserved = search rules;
+      distinct =
+          ap (λ ls. apart (numbers ls)) c.remove-line.ensures.items ∙ ap apart (numbers_removed (vec_items c.args.self.now.lines) c.args.i)
+          ∙ apart_removed (numbers (vec_items c.args.self.now.lines)) c.args.i c.args.self.now.distinct;
+    }
 
 pub returns : goal.returns
 returns g c =

@@ -3,7 +3,7 @@ use Rattle.line_buffer.proofs.Shown.{apart_none, safe_no_lines, survived_lines}
 use Rattle.line_buffer.proofs.buffer.LineBuffer.forget.Goals as goal
 
 pub invariant_of-self : goal.invariant_of-self
-invariant_of-self g c = (search rules, (search rules, (apart_none (vec_items c.clear.new.self) c.clear.ensures.items, tt)))
+invariant_of-self g c = record { few = search rules; reserved = search rules; distinct = apart_none (vec_items c.clear.new.self) c.clear.ensures.items }
 
 pub returns : goal.returns
 returns g c =

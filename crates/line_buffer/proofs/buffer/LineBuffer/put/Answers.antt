@@ -1,10 +1,9 @@
-use Rattle.std.proofs.Common.{◌≡◌, vec_items, refl, rules}
-use Rattle.line_buffer.specs.Lines.{line_bytes}
+use Rattle.std.proofs.Common.{vec_items, refl, rules}
 use Rattle.line_buffer.proofs.Put.{put_held}
 use Rattle.line_buffer.proofs.buffer.LineBuffer.put.Goals as goal
 
 pub invariant_of-self : goal.invariant_of-self
-invariant_of-self g c = (c.hold.ensures.few, (search rules, (c.hold.ensures.distinct, tt)))
+invariant_of-self g c = record { few = c.hold.ensures.few; reserved = search rules; distinct = c.hold.ensures.distinct }
 
 pub returns-then-has_place : goal.returns-then-has_place
 returns-then-has_place g c =

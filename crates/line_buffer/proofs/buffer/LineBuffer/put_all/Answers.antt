@@ -1,4 +1,4 @@
-use Rattle.std.proofs.Common.{◌≡◌, ℕ, ◌+◌, ◌-◌, ◌*◌, ◌/◌, ◌<◌, ◌≤◌, min, true, false, length, take, None, vec_items, sym, refl, ap, ◌∙◌, subst, arith, rules}
+use Rattle.std.proofs.Common.{◌≡◌, ℕ, ◌+◌, ◌-◌, ◌*◌, ◌/◌, ◌<◌, ◌≤◌, true, length, take, None, vec_items, sym, refl, ap, ◌∙◌, subst, arith, rules}
 use Rattle.std.proofs.lemmas.List.{take_all}
 use Rattle.std.proofs.lemmas.Bool.{eqb-true, eqb-false}
 use Rattle.line_buffer.specs.Lines.{line_bytes, most_lines, numbers, held_at, written, missing, touched, WroteBack}
@@ -11,7 +11,7 @@ some n h = search rules
 
 pub returns-then-is_empty : goal.returns-then-is_empty
 returns-then-is_empty g c =
-    let e : length c.args.from.now ≡ 0 = eqb-true _ _ (sym c.if-is-empty.ensures) in
+    let e : length c.args.from.now ≡ 0 = eqb-true _ _ (sym c.if-is_empty.ensures) in
     let ls = vec_items c.args.self.now.lines in
     let xs = g.M.Memory.bytes c.args.self.now.below in
     let back = wrote_empty ls xs c.args.at c.args.from.now e in

@@ -1,4 +1,4 @@
-use Rattle.std.proofs.Common.{◌≡◌, ℕ, ◌+◌, ◌/◌, ◌<◌, ◌≤◌, true, false, cond, ◌⊎◌, List, [], ◌∷◌, ◌++◌, length, get_or, is_ok, vec_items, vec_len, sym, refl, ap, ◌∙◌, subst, ⊎_elim, arith, rules}
+use Rattle.std.proofs.Common.{◌≡◌, ℕ, ◌+◌, ◌/◌, ◌<◌, ◌≤◌, true, false, cond, ◌⊎◌, List, [], ◌∷◌, ◌++◌, length, get_or, is_ok, vec_items, vec_len, ap, ◌∙◌, subst, ⊎_elim, arith, rules}
 use Rattle.std.specs.List.{remove}
 use Rattle.std.proofs.lemmas.List.{length-map}
 use Rattle.std.proofs.lemmas.Bool.{or_parts, ltb-false, cond-true, le-leb, cases_lt}
@@ -31,7 +31,7 @@ hold-requires g c =
     }
 
 pub invariant_of-self : goal.invariant_of-self
-invariant_of-self g c = (c.hold.ensures.few, (search rules, (c.hold.ensures.distinct, tt)))
+invariant_of-self g c = record { few = c.hold.ensures.few; reserved = search rules; distinct = c.hold.ensures.distinct }
 
 pub returns-in-Some : goal.returns-in-Some
 returns-in-Some g c =

@@ -1,4 +1,4 @@
-use Rattle.std.proofs.Common.{◌≡◌, sym, ap, ◌∙◌, rules}
+use Rattle.std.proofs.Common.{ap, ◌∙◌, rules}
 use Rattle.line_buffer.specs.Lines.{laid}
 use Rattle.line_buffer.proofs.Laid.{laid_laid, laid_nothing, laid_same, unwrap_or_cells_more, cells_below_none, cells_below_all}
 use Rattle.line_buffer.proofs.line.Line.lay.Goals as goal
