@@ -1,9 +1,8 @@
 -- What a reader gave is written again with the same bytes.
-use Rattle.std.proofs.Common.{◌≡◌, ℕ, true, List, IfOk, Some, None, Ok, Err, Option, Result, sym}
+use Rattle.std.proofs.Common.{◌≡◌, ℕ, true, List, IfOk, Some, None, Ok, Err, Option, Result}
 use Rattle.std.specs.Option.{ok_or}
 use Rattle.model.specs.declared.refusal.Refusal.{Refusal}
 use Rattle.model.specs.declared.refusal.Refusal.TheVariants.{Malformed}
-use Rattle.model.specs.Items.{Item as PlainItem}
 use Rattle.model.specs.ItemFormat.{is_list}
 use Rattle.model.specs.Requests.{decode_request, encode_request}
 use Rattle.model.specs.RoundTrips.{Bytes}

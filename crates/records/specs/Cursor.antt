@@ -1,5 +1,5 @@
 -- What a cursor over items stands for: the items that are still to come.
-use Rattle.std.specs.Prelude.{◌≡◌, ℕ, List, [], ◌∷◌, Ok, Err, Option, Result, MatchOption}
+use Rattle.std.specs.Prelude.{◌≡◌, List, [], ◌∷◌, Ok, Err, Option, Result, MatchOption}
 use Rattle.model.specs.Items.{Item as PlainItem}
 use Rattle.model.specs.ItemFormat.{take_items}
 use Rattle.model.specs.declared.refusal.Refusal.{Refusal}

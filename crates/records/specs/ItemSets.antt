@@ -1,5 +1,5 @@
 -- What an item set stands for, and which items of a list it keeps.
-use Rattle.std.specs.Prelude.{ℕ, Bool, true, List, ◌==◌}
+use Rattle.std.specs.Prelude.{Bool, true, List, ◌==◌}
 use Rattle.model.specs.Items.{Item as PlainItem}
 use Rattle.model.specs.ItemFormat.{take_items}
 use Rattle.model.specs.Ranges.{is_write, node_of}

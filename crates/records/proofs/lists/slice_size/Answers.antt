@@ -1,5 +1,5 @@
 -- Each turn adds the next item's size.
-use Rattle.std.proofs.Common.{◌≡◌, ℕ, ◌+◌, ◌<◌, ◌≤◌, map, length, get_or, sym, ap, inl, inr, arith}
+use Rattle.std.proofs.Common.{map, get_or, inl, inr, arith}
 use lib.ListN.{length-map}
 use Rattle.std.proofs.lemmas.List.{at_drop_all}
 use Rattle.records.specs.Meaning.{item_meaning, no_item}
@@ -16,9 +16,9 @@ returns-then-items-lt1 c =
       | then-items-lt1-via-else-items-lt1+then-items w ↦ size_none all (inr (omega (arith, n, w.if-items.true)))
     ]
 
-pub returns-in-default : goal.returns-in-default
-returns-in-default c =
-    sizing_stuck _ _ _ _ _ (first_left c.args.items.now _ c.loop-item-test.true) c.in-default.ensures
+pub returns-in_default : goal.returns-in_default
+returns-in_default c =
+    sizing_stuck _ _ _ _ _ (first_left c.args.items.now _ c.loop-item-test.true) c.in_default.ensures
     c.loop-item.invariant.1
 
 pub loop-item-preserved : goal.loop-item-preserved

@@ -8,4 +8,4 @@ pub returns : goal.returns
 returns c =
     let fits : c.args.at + length c.args.bytes.now ≤ length c.args.buffer.now = omega arith
     in let len : c.args.at + length c.args.bytes.now - c.args.at ≡ length c.args.bytes.now = omega arith
-    in put_mid_splice c.args.buffer.now _ _ c.args.at _ c.copy-from-slice.ensures.after len ∙ sym (placed_fits _ _ _ fits)
+    in put_mid_splice c.args.buffer.now _ _ c.args.at _ c.copy_from_slice.ensures.after len ∙ sym (placed_fits _ _ _ fits)

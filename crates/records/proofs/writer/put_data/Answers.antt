@@ -1,5 +1,5 @@
 -- The fields and the data behind them are one splice.
-use Rattle.std.proofs.Common.{◌≡◌, ℕ, ◌+◌, ◌/◌, ◌%◌, ◌≤◌, List, [], ◌∷◌, length, ap, ◌∙◌, arith}
+use Rattle.std.proofs.Common.{ℕ, ◌+◌, ◌/◌, ◌%◌, ◌≤◌, List, [], ◌∷◌, length, ap, ◌∙◌, arith}
 use Rattle.model.specs.Bytes.{placed}
 use Rattle.model.proofs.Splices.{placed_more}
 use Rattle.records.proofs.writer.put_data.Goals as goal
