@@ -1,5 +1,5 @@
 -- A message is read as its record, its header and its body are.
-use Rattle.std.proofs.Common.{◌≡◌, get_or, drop, sym, ap, ◌∙◌, arith}
+use Rattle.std.proofs.Common.{get_or, sym, ap, ◌∙◌, arith}
 use Rattle.std.specs.Option.{ok_or}
 use Rattle.model.specs.MessageFormat.{decode_body}
 use Rattle.model.specs.declared.refusal.Refusal.TheVariants.{Malformed}

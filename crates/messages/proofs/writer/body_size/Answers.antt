@@ -1,5 +1,5 @@
 -- A list that has a size is short.
-use Rattle.std.proofs.Common.{◌≡◌, arith}
+use Rattle.std.proofs.Common.{arith}
 use Rattle.model.proofs.RequestLaws.{list_sized, list_bound}
 use Rattle.records.specs.Cursor.{items_meaning}
 use Rattle.messages.proofs.writer.body_size.Goals as goal
