@@ -1,11 +1,10 @@
 -- Writing a message: the size of its body, and of the whole.
-use Rattle.std.proofs.Common.{◌≡◌, ℕ, ◌+◌, ◌≤◌, Bool, true, false, cond, eqb, leb, List, ◌∷◌, ◌++◌, length, Some, None, Option, refl, ap, ap₂, arith}
-use Rattle.std.proofs.lemmas.Bool.{leb-true}
+use Rattle.std.proofs.Common.{◌≡◌, ℕ, ◌+◌, ◌≤◌, Bool, true, false, cond, List, ◌∷◌, ◌++◌, length, Some, None, refl, ap₂, arith}
 use Rattle.std.proofs.lemmas.Bool.Decides.{nat_tests}
 use Rattle.model.specs.ItemFormat.{be16}
 use Rattle.model.specs.Requests.{version}
 use Rattle.model.specs.Messages.{Body as PlainBody, Message as PlainMessage, prepare, voted, finish, inquiry, reply, query, settled}
-use Rattle.model.specs.MessageFormat.{encode_body, encode_header, encode_message, encode_party, is_body, kind_of, reads_limit}
+use Rattle.model.specs.MessageFormat.{encode_body, encode_header, encode_message, encode_party, is_body, kind_of}
 use Rattle.model.proofs.RequestLaws.{list_bound}
 
 pub body_sized :

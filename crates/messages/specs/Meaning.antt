@@ -1,5 +1,5 @@
 -- What the values of the code stand for.
-use Rattle.std.specs.Prelude.{ℕ, Bool, Some, None, Ok, Err, Option, Result}
+use Rattle.std.specs.Prelude.{Ok, Err, Result}
 use Rattle.model.specs.declared.refusal.Refusal.{Refusal}
 use Rattle.model.specs.Messages.{Body as PlainBody, Message as PlainMessage, prepare, voted, finish, inquiry, reply, query, settled}
 use Rattle.records.specs.Cursor.{items_meaning}

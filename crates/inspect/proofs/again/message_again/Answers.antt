@@ -13,7 +13,7 @@ pub returns-in-Ok : goal.returns-in-Ok
 returns-in-Ok c =
     let m = message_meaning c.args.message.now
     in let n = c.in-Ok.length
-    in let after = c.write-message.new.buffer
+    in let after = c.write_message.new.buffer
     in let whole = written_take (is_body m.body) (encode_message m) (replicate 192 0) after (Ok n) c.in-Ok.ensures.value
     in let all : n - 0 ≡ n = omega arith
     in let same : take (n - 0) after ≡ c.args.bytes.now = ap (λ k. take k after) all ∙ whole.1 ∙ c.requires.bytes

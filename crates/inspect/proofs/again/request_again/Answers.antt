@@ -16,11 +16,11 @@ use Rattle.std.proofs.lemmas.Bool.Decides.{Decides-eqb}
 pub returns-in-Ok : goal.returns-in-Ok
 returns-in-Ok c =
     let road = YieldsList-from_shown ItemStep item_meaning items_meaning (λ s t e. ap length e.0) (λ s x t e. e) c.args.items
-    in let list = map_from_collect {E = AllocError} {steps = ItemStep} (Ok c.in-ok-list.list) c.in-ok-list.ensures.ran road
-    in let is : List PlainItem = map item_meaning c.as-slice.result.now
-    in let items : is ≡ items_meaning c.args.items = ap (map item_meaning) c.as-slice.ensures.value ∙ list
+    in let list = map_from_collect {E = AllocError} {steps = ItemStep} (Ok c.in_ok-list.list) c.in_ok-list.ensures.ran road
+    in let is : List PlainItem = map item_meaning c.as_slice.result.now
+    in let items : is ≡ items_meaning c.args.items = ap (map item_meaning) c.as_slice.ensures.value ∙ list
     in let n = c.in-Ok.length
-    in let after = c.write-request.new.buffer
+    in let after = c.write_request.new.buffer
     in let whole = written_take (is_list is) (encode_request is) (replicate 192 0) after (Ok n) c.in-Ok.ensures.value
     in let all : n - 0 ≡ n = omega arith
     in let same : take (n - 0) after ≡ c.args.bytes.now =
@@ -30,9 +30,9 @@ returns-in-Ok c =
 pub returns : goal.returns
 returns c =
     let road = YieldsList-from_shown ItemStep item_meaning items_meaning (λ s t e. ap length e.0) (λ s x t e. e) c.args.items
-    in let list = map_from_collect {E = AllocError} {steps = ItemStep} (Ok c.in-ok-list.list) c.in-ok-list.ensures.ran road
-    in let is : List PlainItem = map item_meaning c.as-slice.result.now
-    in let items : is ≡ items_meaning c.args.items = ap (map item_meaning) c.as-slice.ensures.value ∙ list
+    in let list = map_from_collect {E = AllocError} {steps = ItemStep} (Ok c.in_ok-list.list) c.in_ok-list.ensures.ran road
+    in let is : List PlainItem = map item_meaning c.as_slice.result.now
+    in let items : is ≡ items_meaning c.args.items = ap (map item_meaning) c.as_slice.ensures.value ∙ list
     in let form : is_list is ≡ true = ap is_list items ∙ c.requires.form
     in let fits : length (encode_request is) ≤ 192 = omega (arith, request_length is, list_bound is form)
     in absurd (written_fits (is_list is) (encode_request is) (replicate 192 0) _ _ form fits c.in-Err.ensures.value)

@@ -12,7 +12,7 @@ returns c =
     in let whole : decode_message c.args.bytes.now ≡ Some m = some_from_ok m (decode_message c.args.bytes.now) _ c.in-Ok.ensures.value
     in let start = string_bytes c.args.out.now
     in let said = said_three start (header_text m) (body_text m.body) (again_text true) _ _ _
-    c.in-ok-say-header.ensures
-    c.in-ok-say-body.ensures
-    (c.in-ok-say-again.ensures ∙ ap (λ b. string_bytes c.say-body.new.out ++ again_text b) c.message_again.ensures)
+    c.in_ok-say_header.ensures
+    c.in_ok-say_body.ensures
+    (c.in_ok-say_again.ensures ∙ ap (λ b. string_bytes c.say_body.new.out ++ again_text b) c.message_again.ensures)
     in (sym (ap is_some whole), said ∙ ap (λ o. start ++ maybe_text message_text o) (sym whole))

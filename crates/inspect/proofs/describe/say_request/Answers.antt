@@ -13,7 +13,7 @@ returns c =
     in let first : ℕ → List ℕ = λ n. codes "request, items: " ++ (decimal n ++ codes "\n")
     in let start = string_bytes c.args.out.now
     in let said = said_three start (first (length is)) (items_text is) (again_text true) _ _ _
-    (c.in-ok-write.ensures.bytes ∙ ap (λ n. start ++ first n) c.len-count.ensures)
-    c.in-ok-say-items.ensures
-    (c.in-ok-say-again.ensures ∙ ap (λ b. string_bytes c.say-items.new.out ++ again_text b) c.in-ok-same.ensures)
+    (c.in_ok-write.ensures.bytes ∙ ap (λ n. start ++ first n) c.len-count.ensures)
+    c.in_ok-say_items.ensures
+    (c.in_ok-say_again.ensures ∙ ap (λ b. string_bytes c.say_items.new.out ++ again_text b) c.in_ok-same.ensures)
     in (sym (ap is_some whole), said ∙ ap (λ o. start ++ maybe_text request_text o) (sym whole))

@@ -12,7 +12,7 @@ loop-byte-preserved c =
     in said_more bytes_text b _ _ (codes " " ++ decimal b) (string_bytes c.loop-byte.out) (string_bytes c.write.new.self) _
     (drop_more bytes c.loop-byte.byte-index 0 c.loop-byte-test.true)
     (bytes_more b _)
-    c.in-ok-write.ensures.bytes
+    c.in_ok-write.ensures.bytes
     c.loop-byte.invariant
 
 pub returns : goal.returns

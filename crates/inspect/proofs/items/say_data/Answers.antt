@@ -13,6 +13,6 @@ returns c =
     (bytes_text c.args.data.now)
     (codes "\n")
     _ _ _
-    c.in-ok-write.ensures.bytes
-    c.in-ok-say-bytes.ensures
-    c.in-ok-write-2.ensures.bytes
+    c.in_ok-write.ensures.bytes
+    c.in_ok-say_bytes.ensures
+    c.in_ok-write-2.ensures.bytes

@@ -10,10 +10,10 @@ loop-item-preserved c = (
   tt,
   tt,
   said_more items_text (item_meaning c.in-Some.item) _ _ (item_text (item_meaning c.in-Some.item))
-      (string_bytes c.loop-item.out) (string_bytes c.say-item.new.out) _
+      (string_bytes c.loop-item.out) (string_bytes c.say_item.new.out) _
       c.in-Some.ensures.steps
       (items_more (item_meaning c.in-Some.item) _)
-      c.in-ok-say-item.ensures
+      c.in_ok-say_item.ensures
       c.loop-item.invariant.2,
 )
 

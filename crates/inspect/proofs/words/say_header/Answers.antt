@@ -12,7 +12,7 @@ returns c =
     in let start = string_bytes c.args.out.now
     in said_four start (first (kind_name (body_meaning c.args.message.now.body))) (party_text header.sender) (codes ", to ")
     (party_text header.receiver) _ _ _ _
-    (c.in-ok-write.ensures.bytes ∙ ap (λ kind. start ++ first kind) c.kind-name-kind.ensures)
-    c.in-ok-say-party.ensures
-    c.in-ok-write-2.ensures.bytes
-    c.in-ok-say-party-2.ensures
+    (c.in_ok-write.ensures.bytes ∙ ap (λ kind. start ++ first kind) c.kind_name-kind.ensures)
+    c.in_ok-say_party.ensures
+    c.in_ok-write-2.ensures.bytes
+    c.in_ok-say_party-2.ensures

@@ -11,5 +11,5 @@ returns c =
     in let first : ℕ → List ℕ = λ n. codes ", participants " ++ (decimal c.args.participants ++ (codes ", items: " ++ (decimal n ++ codes "\n")))
     in let start = string_bytes c.args.out.now
     in said_two start (first (length is)) (items_text is) _ _
-    (c.in-ok-write.ensures.bytes ∙ ap (λ n. start ++ first n) c.len-count.ensures)
-    c.in-ok-say-items.ensures
+    (c.in_ok-write.ensures.bytes ∙ ap (λ n. start ++ first n) c.len-count.ensures)
+    c.in_ok-say_items.ensures

@@ -10,6 +10,6 @@ returns c =
     let first : ℕ → List ℕ = λ n. codes ", vote " ++ (decimal n ++ codes ", reads:")
     in let start = string_bytes c.args.out.now
     in said_three start (first (vote_number c.args.vote)) (bytes_text c.args.reads.now) (codes "\n") _ _ _
-    (c.in-ok-write.ensures.bytes ∙ ap (λ n. start ++ first n) c.number-number.ensures)
-    c.in-ok-say-bytes.ensures
-    c.in-ok-write-2.ensures.bytes
+    (c.in_ok-write.ensures.bytes ∙ ap (λ n. start ++ first n) c.number-number.ensures)
+    c.in_ok-say_bytes.ensures
+    c.in_ok-write-2.ensures.bytes

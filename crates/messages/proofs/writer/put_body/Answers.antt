@@ -22,9 +22,9 @@ returns-in-Prepare c =
     in let buffer = c.args.buffer.now
     in let first : List ℕ = c.in-Prepare.participants ∷ []
     in let form : body_meaning c.args.body.now ≡ prepare c.in-Prepare.participants is = ap body_meaning c.in-Prepare.is
-    in let good : is_list is ≡ true = sym (ap is_body form) ∙ c.requires.0
-    in let fits : 12 + (1 + length (encode_list is)) ≤ length buffer = omega (arith, room buffer _ _ form c.requires.1)
-    in c.put-list.ensures ∙
+    in let good : is_list is ≡ true = sym (ap is_body form) ∙ c.requires.body_value
+    in let fits : 12 + (1 + length (encode_list is)) ≤ length buffer = omega (arith, room buffer _ _ form c.requires.body_in_bounds)
+    in c.put_list.ensures ∙
     ap (λ b. cond b (placed c.put.new.buffer 13 (encode_list is)) c.put.new.buffer) good ∙
     ap (λ b. placed b 13 (encode_list is)) c.put.ensures ∙
     placed_more buffer 12 first (encode_list is) fits ∙ ap (λ b. splice buffer 12 (encode_body b)) (sym form)
@@ -35,7 +35,7 @@ returns-in-Vote c =
     in let reads = c.in-Vote.reads.now
     in let first : List ℕ = vote_number c.in-Vote.vote ∷ []
     in let form : body_meaning c.args.body.now ≡ voted c.in-Vote.vote reads = ap body_meaning c.in-Vote.is
-    in let fits : 12 + (1 + length reads) ≤ length buffer = omega (arith, room buffer _ _ form c.requires.1)
+    in let fits : 12 + (1 + length reads) ≤ length buffer = omega (arith, room buffer _ _ form c.requires.body_in_bounds)
     in c.put-in-Vote-2.ensures ∙
     ap (λ b. placed b 13 reads) (c.put-in-Vote.ensures ∙ ap (λ n. placed buffer 12 (n ∷ [])) c.number.ensures) ∙
     placed_more buffer 12 first reads fits ∙ ap (λ b. splice buffer 12 (encode_body b)) (sym form)

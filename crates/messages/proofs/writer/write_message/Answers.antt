@@ -12,14 +12,14 @@ use Rattle.messages.specs.Meaning.{body_meaning, message_meaning}
 use Rattle.messages.proofs.Writing.{body_sized, body_bound, message_length, head_of, message_parts}
 use Rattle.messages.proofs.writer.write_message.Goals as goal
 
-pub overflow-add-size : goal.overflow-add-size
-overflow-add-size c =
+pub overflow_add-size : goal.overflow_add-size
+overflow_add-size c =
     let b = body_meaning c.args.message.now.body
     in let s = body_sized b _ c.in-Some.ensures
     in omega (arith, body_bound b s.0, s.1)
 
-pub overflow-cast-length : goal.overflow-cast-length
-overflow-cast-length c =
+pub overflow_cast-length : goal.overflow_cast-length
+overflow_cast-length c =
     let b = body_meaning c.args.message.now.body
     in let s = body_sized b _ c.in-Some.ensures
     in omega (arith, body_bound b s.0, s.1)
@@ -40,19 +40,19 @@ returns c =
     in let head : List ℕ = head_of (10 + n) c.kind.result m
     in let room : 0 + 12 ≤ length buffer = omega arith
     in let first : c.put.new.buffer ≡ splice buffer 0 head =
-    c.put.ensures ∙ ap (placed buffer 0) c.header-bytes.ensures ∙ placed_fits buffer 0 head room
-    in let whole : c.put-body.new.buffer ≡ splice buffer 0 (head ++ encode_body m.body) =
-    c.put-body.ensures ∙
+    c.put.ensures ∙ ap (placed buffer 0) c.header_bytes.ensures ∙ placed_fits buffer 0 head room
+    in let whole : c.put_body.new.buffer ≡ splice buffer 0 (head ++ encode_body m.body) =
+    c.put_body.ensures ∙
     ap (λ b. splice b 12 (encode_body m.body)) first ∙ splice_more buffer 0 head (encode_body m.body) (omega arith)
     in let same : head ++ encode_body m.body ≡ encode_message m = message_parts m n _ s.1 c.kind.ensures
     in let fits : length (encode_message m) ≤ length buffer = omega (arith, message_length m, s.1)
     in let len : 12 + n ≡ length (encode_message m) = omega (arith, message_length m, s.1)
-    in let value : ◌≡◌ {A = Result ℕ Refusal × List ℕ} (Ok (12 + n), c.put-body.new.buffer) (written (is_body m.body) (encode_message m) buffer) =
-    written_done (is_body m.body) (encode_message m) buffer c.put-body.new.buffer _ s.0 fits len
+    in let value : ◌≡◌ {A = Result ℕ Refusal × List ℕ} (Ok (12 + n), c.put_body.new.buffer) (written (is_body m.body) (encode_message m) buffer) =
+    written_done (is_body m.body) (encode_message m) buffer c.put_body.new.buffer _ s.0 fits len
     (whole ∙ ap (splice buffer 0) same ∙ splice_start buffer (encode_message m))
     in record {
       value = value;
       back =
-          ap decode_message (written_take _ (encode_message m) buffer c.put-body.new.buffer (Ok (12 + n)) value).1 ∙
+          ap decode_message (written_take _ (encode_message m) buffer c.put_body.new.buffer (Ok (12 + n)) value).1 ∙
           message_back m s.0;
     }
