@@ -1,12 +1,12 @@
 -- Writes under a budget, one after the other.
-use Rattle.std.proofs.Common.{◌≡◌, ℕ, zero, suc, ◌-◌, ◌<◌, Bool, true, false, cond, not, ltb, List, [], ◌∷◌, ◌++◌, map, take, sym, refl, ap, ◌∙◌, subst, ap₂, arith}
+use Rattle.std.proofs.Common.{◌≡◌, ℕ, zero, suc, ◌-◌, Bool, true, false, cond, not, ltb, List, [], ◌∷◌, ◌++◌, map, take, sym, refl, ap, ◌∙◌, subst, ap₂, arith}
 use Rattle.std.proofs.lemmas.Bool.{lt-ltb, ltb-true, ne_eqb}
 use Rattle.model.specs.Items.{Item}
 use Rattle.model.specs.Lists.{only}
 use Rattle.model.specs.Writes.{Write, Stores, put, applied, applied_all, budgeted, fails}
 use Rattle.model.specs.Deeds.{touched_by, touched_by_all}
 use Rattle.model.proofs.Leading.{touched_by_all_more}
-use Rattle.nodes.specs.Budgets.{allows, spent, left_over, Spared, MadeOne, Made, puts}
+use Rattle.nodes.specs.Budgets.{allows, spent, left_over, MadeOne, Made, puts}
 use Rattle.records.specs.declared.item_set.Selection.{Selection}
 use Rattle.records.specs.ItemSets.{selected}
 use Rattle.nodes.proofs.Turns.{only_none, only_more}

@@ -1,6 +1,5 @@
 -- Two tests that decide the same thing agree.
 use Rattle.std.proofs.Common.{◌≡◌, Bool, true, false, Decides, sym, refl}
-use Rattle.std.proofs.lemmas.Bool.{both_ways}
 
 pub decide_alike : {P : Type 0} (a b : Bool) → Decides a P → Decides b P → a ≡ b
 decide_alike true true d e = refl

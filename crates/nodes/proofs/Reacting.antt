@@ -1,11 +1,11 @@
 -- Effects of a node that make no write, or one, and what a node makes of an inquiry.
-use Rattle.std.proofs.Common.{◌≡◌, ℕ, Bool, true, false, cond, not, List, [], ◌∷◌, sym, refl, ap, ◌∙◌, subst}
+use Rattle.std.proofs.Common.{◌≡◌, ℕ, Bool, true, false, cond, not, List, [], ◌∷◌, refl, ap, ◌∙◌}
 use Rattle.model.specs.declared.party.Party.{Party}
 use Rattle.model.specs.Messages.{Message, reply}
 use Rattle.model.specs.Journal.{has_entry, is_forced, is_forced_full}
 use Rattle.model.specs.Writes.{Write, Stores, force}
 use Rattle.model.specs.Node.{Node, journal_of}
-use Rattle.model.specs.Handling.{Effect, Reaction, lost, taken, sending, without_effect, from, inquired}
+use Rattle.model.specs.Handling.{Reaction, lost, taken, sending, from, inquired}
 use Rattle.nodes.specs.Budgets.{MadeOne, Made}
 use Rattle.nodes.specs.Effects.{Done}
 use Rattle.nodes.proofs.Budgeting.{made_none, made_more}

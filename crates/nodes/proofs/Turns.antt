@@ -1,5 +1,5 @@
 -- One turn of a loop over a list: what tests, filters and joins over the list make of its first element.
-use Rattle.std.proofs.Common.{◌≡◌, ℕ, Bool, true, false, cond, ◌&&◌, ◌||◌, List, [], ◌∷◌, ◌++◌, sym, refl, ap, ◌∙◌}
+use Rattle.std.proofs.Common.{◌≡◌, Bool, true, false, cond, ◌&&◌, ◌||◌, List, [], ◌∷◌, ◌++◌, sym, refl, ap, ◌∙◌}
 use Rattle.model.specs.Lists.{some, every, only, joined_by}
 
 pub some_none : {X : Type 0} (t : X → Bool) → some t [] ≡ false

@@ -1,5 +1,5 @@
 -- How a node carries an effect out: write by write, as far as the budget goes, with what is then volatile and sent.
-use Rattle.std.specs.Prelude.{◌≡◌, ℕ, Bool, List, Option}
+use Rattle.std.specs.Prelude.{◌≡◌, ℕ, Bool, List}
 use Rattle.model.specs.Messages.{Message}
 use Rattle.model.specs.Node.{Node}
 use Rattle.model.specs.Handling.{Effect, Reaction as PlainReaction, lost, taken}

@@ -1,5 +1,5 @@
 -- What the answers of a node stand for.
-use Rattle.std.specs.Prelude.{ℕ, List, [], ◌∷◌, Some, None, Option}
+use Rattle.std.specs.Prelude.{List, [], ◌∷◌, Some, None, Option}
 use Rattle.model.specs.declared.party.Party.TheVariants.{Node as NodeParty}
 use Rattle.model.specs.Messages.{Body as PlainBody, Message as PlainMessage, voted, reply, settled}
 use Rattle.nodes.specs.declared.response.Content.{Content}

@@ -1,7 +1,7 @@
 -- What the tables of a node stand for.
-use Rattle.std.specs.Prelude.{ℕ, cond, not, ◌&&◌, List, [], map, take, is_some, Some, None, Option, slice_index_or}
+use Rattle.std.specs.Prelude.{ℕ, cond, List, [], map, take, Some, None, Option, slice_index_or}
 use Rattle.model.specs.Lists.{place, stands}
-use Rattle.model.specs.Node.{Doubt as PlainDoubt, Unresolved as PlainUnresolved, no_unresolved, unresolved_tid}
+use Rattle.model.specs.Node.{Doubt as PlainDoubt, Unresolved as PlainUnresolved}
 use Rattle.records.specs.ItemSets.{set_items}
 use Rattle.nodes.specs.declared.doubts.Doubt.{Doubt}
 use Rattle.nodes.specs.declared.doubts.Doubts.{Doubts}

@@ -1,7 +1,7 @@
 -- The first comparison that is not true decides.
-use Rattle.std.proofs.Common.{◌≡◌, true, sym, ap, ◌∙◌}
+use Rattle.std.proofs.Common.{sym, ap, ◌∙◌}
 use Rattle.std.proofs.lemmas.Bool.{and_parts}
-use Rattle.model.specs.ItemFormat.{is_item, are_items}
+use Rattle.model.specs.ItemFormat.{are_items}
 use Rattle.model.specs.Ranges.{holds}
 use Rattle.model.proofs.ItemLists.{are_more}
 use Rattle.records.specs.Meaning.{item_meaning}

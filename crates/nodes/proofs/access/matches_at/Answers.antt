@@ -1,10 +1,7 @@
 -- The bytes that were read are compared.
-use Rattle.std.proofs.Common.{◌≡◌, ℕ, ◌≤◌, Bool, true, length, sym, ap, ◌∙◌, arith, rules}
-use Rattle.std.specs.Str.{bytes_eq}
+use Rattle.std.proofs.Common.{rules}
 use Rattle.std.proofs.lemmas.Slice.Eq.{slice_eq-Decides, bytes_eq-Decides}
 use Rattle.std.proofs.lemmas.List.{places}
-use Rattle.std.proofs.lemmas.Bool.{and_from}
-use Rattle.model.specs.Bytes.{within, part}
 use Rattle.model.specs.declared.refusal.Refusal.TheVariants.{OutOfRange}
 use Rattle.memory.proofs.Answered.{done_within}
 use Rattle.nodes.proofs.Comparing.{decide_alike}

@@ -1,9 +1,7 @@
 -- Each turn writes the next item that is selected.
-use Rattle.std.proofs.Common.{◌≡◌, sym, ◌∙◌}
+use Rattle.std.proofs.Common.{sym, ◌∙◌}
 use Rattle.model.specs.Writes.{put}
 use Rattle.records.specs.Meaning.{item_meaning}
-use Rattle.records.specs.Cursor.{items_meaning}
-use Rattle.nodes.specs.Budgets.{both, puts}
 use Rattle.nodes.proofs.Budgeting.{puts_none, puts_taken, puts_skipped, remaining_skip, remaining_more, remaining_end}
 use Rattle.nodes.proofs.access.put_items.Goals as goal
 

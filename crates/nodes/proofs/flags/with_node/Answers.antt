@@ -1,5 +1,5 @@
 -- A node beyond the list is not in it.
-use Rattle.std.proofs.Common.{◌≡◌, ℕ, true, length, sym, arith, rules}
+use Rattle.std.proofs.Common.{◌≡◌, true, length, sym, arith, rules}
 use lib.Seq.{set_out}
 use Rattle.nodes.proofs.flags.with_node.Goals as goal
 

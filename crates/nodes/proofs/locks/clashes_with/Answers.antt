@@ -1,5 +1,5 @@
 -- The first item that clashes decides.
-use Rattle.std.proofs.Common.{◌≡◌, sym, ◌∙◌}
+use Rattle.std.proofs.Common.{sym, ◌∙◌}
 use Rattle.model.specs.Ranges.{clash}
 use Rattle.records.specs.Meaning.{item_meaning}
 use Rattle.nodes.proofs.Turns.{some_hit, some_pass, some_end}

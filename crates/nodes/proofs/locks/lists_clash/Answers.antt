@@ -1,5 +1,5 @@
 -- The first item that clashes with one of the others decides.
-use Rattle.std.proofs.Common.{◌≡◌, sym, ◌∙◌}
+use Rattle.std.proofs.Common.{sym, ◌∙◌}
 use Rattle.model.specs.Lists.{some}
 use Rattle.model.specs.Ranges.{clash}
 use Rattle.records.specs.Meaning.{item_meaning}

@@ -1,8 +1,6 @@
 -- What is left decides.
 use Rattle.std.proofs.Common.{◌≡◌}
-use Rattle.model.specs.Lists.{some}
 use Rattle.model.specs.Ranges.{clashing}
-use Rattle.records.specs.Meaning.{item_meaning}
 use Rattle.records.specs.Cursor.{items_meaning}
 use Rattle.nodes.proofs.locks.lists_clash.Given as goal
 

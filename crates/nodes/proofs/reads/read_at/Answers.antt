@@ -1,5 +1,5 @@
 -- What is read stands behind what was read before.
-use Rattle.std.proofs.Common.{◌≡◌, ℕ, ◌+◌, ◌≤◌, length, arith, rules}
+use Rattle.std.proofs.Common.{◌≡◌, length, arith, rules}
 use Rattle.model.specs.declared.refusal.Refusal.TheVariants.{OutOfRange}
 use Rattle.memory.proofs.Answered.{done_within}
 use Rattle.nodes.proofs.Reading.{read_behind}

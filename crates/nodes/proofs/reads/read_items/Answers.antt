@@ -1,14 +1,13 @@
 -- Each turn reads one item more.
-use Rattle.std.proofs.Common.{◌≡◌, ℕ, ◌+◌, ◌*◌, ◌≤◌, ◌++◌, length, sym, ap, ◌∙◌, ap₂, arith}
+use Rattle.std.proofs.Common.{◌++◌, length, sym, ap, ◌∙◌, ap₂, arith}
 use Rattle.std.proofs.lemmas.Bool.{and_parts}
-use Rattle.model.specs.ItemFormat.{is_item, are_items}
+use Rattle.model.specs.ItemFormat.{are_items}
 use Rattle.model.specs.Ranges.{read_items}
 use Rattle.model.proofs.ItemLists.{are_more}
 use Rattle.records.specs.declared.items.Items.{Items}
 use Rattle.records.specs.Meaning.{item_meaning}
 use Rattle.records.specs.Cursor.{items_meaning}
 use Rattle.records.proofs.Taking.{taken_form}
-use Rattle.nodes.specs.Reading.{read_bytes}
 use Rattle.nodes.proofs.Reading.{reading_more, reading_end}
 use Rattle.nodes.proofs.reads.read_items.Goals as goal
 

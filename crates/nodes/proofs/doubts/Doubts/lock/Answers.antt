@@ -1,5 +1,5 @@
 -- The first in doubt that an item clashes with decides.
-use Rattle.std.proofs.Common.{◌≡◌, map, get_or, sym, ap, ◌∙◌}
+use Rattle.std.proofs.Common.{map, get_or, sym, ap, ◌∙◌}
 use Rattle.std.proofs.lemmas.List.{at_drop_more, at_drop_all}
 use Rattle.model.specs.Node.{Doubt as PlainDoubt}
 use Rattle.model.specs.Ranges.{clashing}

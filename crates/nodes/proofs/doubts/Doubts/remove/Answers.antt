@@ -1,5 +1,5 @@
 -- Those behind the place move up by one.
-use Rattle.std.proofs.Common.{◌≡◌, ℕ, ◌-◌, map, length, take, ap, ◌∙◌, arith}
+use Rattle.std.proofs.Common.{◌-◌, map, take, ap, ◌∙◌, arith}
 use Rattle.nodes.specs.Tables.{doubt_meaning}
 use Rattle.nodes.proofs.Places.{front_removed, front_whole, map_removed}
 use Rattle.nodes.proofs.doubts.Doubts.remove.Goals as goal

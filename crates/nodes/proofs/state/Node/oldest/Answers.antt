@@ -1,5 +1,5 @@
 -- The first place is the oldest entry's.
-use Rattle.std.proofs.Common.{◌≡◌, ap, ◌∙◌}
+use Rattle.std.proofs.Common.{ap, ◌∙◌}
 use Rattle.std.specs.List.{slice_get}
 use Rattle.nodes.proofs.Entries.{first_entry}
 use Rattle.nodes.proofs.state.Node.oldest.Goals as goal

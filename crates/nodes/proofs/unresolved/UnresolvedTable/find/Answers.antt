@@ -1,5 +1,5 @@
 -- A record is found by the tid of what it stands for.
-use Rattle.std.proofs.Common.{◌≡◌, ap, ◌∙◌}
+use Rattle.std.proofs.Common.{ap, ◌∙◌}
 use Rattle.model.specs.Lists.{place_in}
 use Rattle.model.specs.Node.{unresolved_tid}
 use Rattle.nodes.specs.Tables.{unresolved_meaning, standing_unresolved}

@@ -1,5 +1,5 @@
 -- A record is found by the tid of what it stands for.
-use Rattle.std.proofs.Common.{◌≡◌, map, length, sym, ap, ◌∙◌, arith}
+use Rattle.std.proofs.Common.{map, length, sym, ap, ◌∙◌, arith}
 use Rattle.model.specs.Lists.{place_in}
 use Rattle.model.specs.Node.{unresolved_tid, no_unresolved}
 use Rattle.nodes.specs.Tables.{unresolved_meaning, standing_unresolved, no_finding, found_in}

@@ -1,5 +1,5 @@
 -- All that stand are in the front of the array.
-use Rattle.std.proofs.Common.{◌≡◌, sym, ◌∙◌, arith}
+use Rattle.std.proofs.Common.{sym, ◌∙◌, arith}
 use Rattle.std.proofs.lemmas.List.{length-take}
 use Rattle.nodes.proofs.Places.{front_capped}
 use Rattle.nodes.proofs.unresolved.UnresolvedTable.len.Goals as goal

@@ -1,5 +1,5 @@
 -- The first free place takes it.
-use Rattle.std.proofs.Common.{◌≡◌, ℕ, cond, leb, [], ◌∷◌, ◌++◌, map, length, sym, ap, ◌∙◌, arith, rules}
+use Rattle.std.proofs.Common.{◌≡◌, cond, leb, [], ◌∷◌, ◌++◌, map, length, sym, ap, ◌∙◌, arith, rules}
 use Rattle.std.proofs.lemmas.List.{length-map}
 use Rattle.std.proofs.lemmas.Bool.{le-leb}
 use Rattle.nodes.specs.Tables.{unresolved_meaning, standing_unresolved, unresolveds_meaning}

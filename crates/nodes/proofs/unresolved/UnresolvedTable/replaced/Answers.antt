@@ -1,5 +1,5 @@
 -- Only a place at which something stands is changed.
-use Rattle.std.proofs.Common.{◌≡◌, ℕ, map, length, sym, ap, ◌∙◌, arith, rules}
+use Rattle.std.proofs.Common.{◌≡◌, map, length, ap, ◌∙◌, arith, rules}
 use lib.Seq.{map-set}
 use Rattle.nodes.specs.Tables.{unresolved_meaning, standing_unresolved}
 use Rattle.nodes.proofs.Places.{front_replaced, front_kept}

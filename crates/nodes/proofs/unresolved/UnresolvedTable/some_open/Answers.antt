@@ -1,5 +1,5 @@
 -- The first that is not resolved decides.
-use Rattle.std.proofs.Common.{◌≡◌, not, map, get_or, is_some, sym, ap, ◌∙◌}
+use Rattle.std.proofs.Common.{not, map, get_or, is_some, sym, ◌∙◌}
 use Rattle.std.proofs.lemmas.List.{at_drop_more, at_drop_all}
 use Rattle.model.specs.Node.{Unresolved as PlainUnresolved}
 use Rattle.nodes.specs.Tables.{unresolved_meaning, no_finding}
