@@ -1,5 +1,5 @@
 -- What the entries of the code stand for.
-use Rattle.std.specs.Prelude.{Bool, cond, ◌||◌, List, map, Some, None, Option}
+use Rattle.std.specs.Prelude.{Bool, cond, ◌||◌, Some, None, Option}
 use Rattle.model.specs.declared.outcome.Outcome.{Outcome}
 use Rattle.model.specs.Journal.{Entry as PlainEntry, durably}
 use Rattle.records.specs.Cursor.{items_meaning}

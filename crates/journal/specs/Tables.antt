@@ -1,5 +1,5 @@
 -- What a table journal stands for.
-use Rattle.std.specs.Prelude.{ℕ, Bool, cond, ◌&&◌, List, map, nat_le}
+use Rattle.std.specs.Prelude.{ℕ, cond, ◌&&◌, List, map, nat_le}
 use Rattle.model.specs.Journal.{Journal as Log}
 use Rattle.model.specs.Numbers.{most_entries, most_forced}
 use Rattle.journal.specs.declared.entry.Entry.{Entry}

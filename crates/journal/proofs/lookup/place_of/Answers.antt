@@ -1,5 +1,5 @@
 -- The loop follows the search.
-use Rattle.std.proofs.Common.{◌≡◌, ◌<◌, length, sym, ap, ◌∙◌, arith, rules}
+use Rattle.std.proofs.Common.{◌<◌, length, rules}
 use Rattle.journal.specs.Entries.{entry_meaning}
 use Rattle.journal.proofs.Looking.{nth_stands, looked_here, looked_past}
 use Rattle.journal.proofs.lookup.place_of.Goals as goal

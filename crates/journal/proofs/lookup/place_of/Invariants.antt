@@ -1,5 +1,5 @@
 -- No entry that was passed has the tid.
-use Rattle.std.proofs.Common.{◌≡◌, ℕ, ◌+◌, drop}
+use Rattle.std.proofs.Common.{◌≡◌, ◌+◌, drop}
 use Rattle.model.specs.Lists.{place}
 use Rattle.model.specs.Journal.{tid_of}
 use Rattle.journal.proofs.lookup.place_of.Given as goal

@@ -1,5 +1,5 @@
 -- The flush saves the outcome from the loss of power.
-use Rattle.std.proofs.Common.{◌≡◌, ℕ, true, false, cond, sym, ap, ◌∙◌, arith}
+use Rattle.std.proofs.Common.{◌≡◌, ℕ, false, sym, ap, ◌∙◌, arith}
 use Rattle.std.proofs.lemmas.Bool.{cond-true, cond-false, not-true}
 use Rattle.model.specs.Journal.{Journal as Log, is_full, is_empty, has_entry, added, noted, flushed, dropped}
 use Rattle.journal.specs.WriteSets.{writes_of}

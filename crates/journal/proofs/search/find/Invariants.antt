@@ -1,5 +1,5 @@
 -- No element that was passed has the number.
-use Rattle.std.proofs.Common.{◌≡◌, ℕ, ◌+◌, drop}
+use Rattle.std.proofs.Common.{◌≡◌, ◌+◌, drop}
 use Rattle.model.specs.Lists.{place}
 use Rattle.journal.proofs.search.find.Given as goal
 

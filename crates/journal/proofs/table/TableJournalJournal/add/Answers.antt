@@ -2,7 +2,7 @@
 use Rattle.std.proofs.Common.{◌≡◌, ◌+◌, true, false, not, ◌||◌, leb, map, length, vec_items, sym, refl, ap, ◌∙◌, rules}
 use Rattle.std.proofs.lemmas.List.{length-map, map_push}
 use Rattle.std.proofs.lemmas.Bool.{cond-true, cond-false}
-use Rattle.model.specs.Journal.{Journal as Log, is_full, added}
+use Rattle.model.specs.Journal.{is_full}
 use Rattle.journal.specs.Entries.{stored_entry}
 use Rattle.journal.specs.Tables.{table_log}
 use Rattle.journal.proofs.table.TableJournalJournal.add.Goals as goal

@@ -1,7 +1,6 @@
 -- The tests are those of a journal that is as made.
-use Rattle.std.proofs.Common.{◌≡◌, ◌&&◌, eqb, leb, map, length, vec_items, vec_len, ◌∙◌, ap₂, rules}
+use Rattle.std.proofs.Common.{◌≡◌, ◌&&◌, eqb, leb, map, length, vec_items, ◌∙◌, ap₂, rules}
 use Rattle.std.proofs.lemmas.List.{length-map}
-use Rattle.model.specs.Journal.{is_as_made}
 use Rattle.journal.specs.Entries.{stored_entry}
 use Rattle.journal.proofs.table.TableJournalJournal.as_made.Goals as goal
 

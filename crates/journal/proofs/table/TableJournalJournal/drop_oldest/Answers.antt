@@ -1,5 +1,5 @@
 -- An empty table shows no entry.
-use Rattle.std.proofs.Common.{◌≡◌, length, vec_items, sym, ap, ◌∙◌, rules}
+use Rattle.std.proofs.Common.{◌≡◌, length, vec_items, sym, ap, rules}
 use Rattle.std.proofs.lemmas.Bool.{cond-true, eqb-true}
 use Rattle.model.specs.Journal.{with_entries}
 use Rattle.journal.specs.Tables.{table_log}

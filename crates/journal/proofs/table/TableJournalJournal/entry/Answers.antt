@@ -1,5 +1,5 @@
 -- The entry that is kept there is shown.
-use Rattle.std.proofs.Common.{◌<◌, length, vec_items, arith, rules}
+use Rattle.std.proofs.Common.{◌<◌, length, vec_items, rules}
 use Rattle.std.proofs.lemmas.List.{length-map}
 use Rattle.std.proofs.lemmas.Option.{slice_get_past}
 use Rattle.journal.proofs.Tables.{shown_at}

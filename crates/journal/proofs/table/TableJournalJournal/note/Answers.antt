@@ -1,5 +1,5 @@
 -- The outcome of the first entry with the tid is set.
-use Rattle.std.proofs.Common.{◌≡◌, cond, Some, vec_items, sym, ap, ◌∙◌}
+use Rattle.std.proofs.Common.{Some, vec_items, sym, ap, ◌∙◌}
 use Rattle.std.proofs.lemmas.Bool.{cond-true, cond-false}
 use Rattle.model.specs.Lists.{place_in}
 use Rattle.model.specs.Journal.{with_entries, with_outcome, entry_of, pending}

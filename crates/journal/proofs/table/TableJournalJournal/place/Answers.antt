@@ -1,5 +1,5 @@
 -- An index has a place if an entry stands there.
-use Rattle.std.proofs.Common.{arith, rules}
+use Rattle.std.proofs.Common.{rules}
 use Rattle.std.proofs.lemmas.List.{length-map}
 use Rattle.std.proofs.lemmas.Bool.{lt-ltb, le-ltb}
 use Rattle.journal.proofs.table.TableJournalJournal.place.Goals as goal

@@ -1,8 +1,7 @@
 -- Each turn keeps the next item, if it is to be written.
-use Rattle.std.proofs.Common.{◌≡◌, sym, refl, ap, ◌∙◌}
+use Rattle.std.proofs.Common.{sym, refl, ap, ◌∙◌}
 use Rattle.records.specs.Meaning.{item_meaning}
 use Rattle.records.specs.Cursor.{items_meaning}
-use Rattle.model.specs.Ranges.{is_write}
 use Rattle.journal.proofs.Taking.{taken_form}
 use Rattle.journal.proofs.Keeping.{keeping_none, keeping_skip, keeping_room, keeping_more, keeping_full, keeping_all, put_not, put_at}
 use Rattle.journal.proofs.write_set.WriteSet.of.Goals as goal
