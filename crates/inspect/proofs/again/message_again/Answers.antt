@@ -1,5 +1,5 @@
 -- A message that was read has a form and room, and is written with the bytes that it was read from.
-use Rattle.std.proofs.Common.{◌≡◌, ℕ, ◌-◌, ◌≤◌, length, take, replicate, Ok, ap, ◌∙◌, arith}
+use Rattle.std.proofs.Common.{◌≡◌, ◌-◌, ◌≤◌, length, take, replicate, Ok, ap, ◌∙◌, arith}
 use Rattle.std.proofs.lemmas.Slice.Eq.{slice_eq-Decides}
 use Rattle.model.specs.MessageFormat.{encode_message, is_body}
 use Rattle.model.proofs.ReadsBack.{written_take}

@@ -1,5 +1,5 @@
 -- The text that the flag chooses.
-use Rattle.std.proofs.Common.{◌≡◌, ◌++◌, string_bytes, sym, ap, ◌∙◌}
+use Rattle.std.proofs.Common.{◌++◌, string_bytes, sym, ap, ◌∙◌}
 use Rattle.inspect.specs.Words.{again_text}
 use Rattle.inspect.proofs.again.say_again.Goals as goal
 

@@ -1,5 +1,5 @@
 -- The lines of a message, and that it is one.
-use Rattle.std.proofs.Common.{◌≡◌, true, List, ◌++◌, is_some, Some, string_bytes, sym, ap, ◌∙◌}
+use Rattle.std.proofs.Common.{◌≡◌, true, ◌++◌, is_some, Some, string_bytes, sym, ap, ◌∙◌}
 use Rattle.model.specs.MessageFormat.{decode_message}
 use Rattle.messages.specs.Meaning.{message_meaning}
 use Rattle.inspect.specs.Words.{header_text, body_text, again_text, maybe_text, message_text}

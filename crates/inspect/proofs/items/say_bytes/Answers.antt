@@ -1,6 +1,6 @@
 -- Each turn says the next byte.
-use Rattle.std.proofs.Common.{◌≡◌, ◌++◌, get_or, drop, string_bytes, codes, decimal}
-use Rattle.std.proofs.lemmas.List.{at_drop_more, at_drop_all, drop_more}
+use Rattle.std.proofs.Common.{◌++◌, get_or, string_bytes, codes, decimal}
+use Rattle.std.proofs.lemmas.List.{at_drop_all, drop_more}
 use Rattle.inspect.specs.Words.{bytes_text}
 use Rattle.inspect.proofs.Saying.{said_more, said_all, bytes_none, bytes_more}
 use Rattle.inspect.proofs.items.say_bytes.Goals as goal

@@ -1,5 +1,5 @@
 -- Each turn says the next item.
-use Rattle.std.proofs.Common.{◌≡◌, ◌++◌, string_bytes}
+use Rattle.std.proofs.Common.{string_bytes}
 use Rattle.records.specs.Meaning.{item_meaning}
 use Rattle.inspect.specs.Words.{item_text, items_text}
 use Rattle.inspect.proofs.Saying.{said_more, said_all, items_none, items_more}

@@ -1,5 +1,5 @@
 -- Four parts, one behind the other.
-use Rattle.std.proofs.Common.{◌≡◌, ℕ, List, ◌++◌, string_bytes, codes, decimal, ap, ◌∙◌}
+use Rattle.std.proofs.Common.{ℕ, List, ◌++◌, string_bytes, codes, decimal, ap, ◌∙◌}
 use Rattle.messages.specs.Meaning.{body_meaning}
 use Rattle.inspect.specs.Words.{kind_name, party_text}
 use Rattle.inspect.proofs.Saying.{said_four}

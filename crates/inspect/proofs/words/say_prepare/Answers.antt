@@ -1,5 +1,5 @@
 -- Two parts, one behind the other.
-use Rattle.std.proofs.Common.{◌≡◌, ℕ, List, ◌++◌, length, string_bytes, codes, decimal, ap, ◌∙◌}
+use Rattle.std.proofs.Common.{ℕ, List, ◌++◌, length, string_bytes, codes, decimal, ap, ◌∙◌}
 use Rattle.records.specs.Cursor.{items_meaning}
 use Rattle.inspect.specs.Words.{items_text}
 use Rattle.inspect.proofs.Saying.{said_two}

@@ -1,5 +1,5 @@
 -- Three parts, one behind the other.
-use Rattle.std.proofs.Common.{◌≡◌, ℕ, List, ◌++◌, string_bytes, codes, decimal, ap, ◌∙◌}
+use Rattle.std.proofs.Common.{ℕ, List, ◌++◌, string_bytes, codes, decimal, ap, ◌∙◌}
 use Rattle.model.specs.Votes.{vote_number}
 use Rattle.inspect.specs.Words.{bytes_text}
 use Rattle.inspect.proofs.Saying.{said_three}
