@@ -65,8 +65,7 @@ fn sixteen_entries_fill_the_largest_journal(rt: HostRuntime) -> Result<(), Fail>
         assert_eq!(rt;
             journal.add(place as u16 + 1, 3, &writes),
             Ok(place),
-            "{}",
-            place
+            "{place}"
         );
     }
     assert_eq!(rt; journal.add(17, 3, &writes), Err(Refusal::NoRoom));
@@ -79,7 +78,7 @@ fn sixteen_entries_fill_the_largest_journal(rt: HostRuntime) -> Result<(), Fail>
 fn sixty_four_forced_aborts_stand_and_no_more(rt: HostRuntime) -> Result<(), Fail> {
     let mut journal = made::<1>(rt.alloc(), 1, 64)?;
     for tid in 1..65 {
-        assert_eq!(rt; journal.force(tid), Ok(()), "{}", tid);
+        assert_eq!(rt; journal.force(tid), Ok(()), "{tid}");
     }
     assert_eq!(rt; journal.force(65), Err(Refusal::NoRoom));
     assert!(rt; !journal.is_forced(65));
@@ -93,8 +92,8 @@ fn the_last_running_number_is_given_once(rt: HostRuntime) -> Result<(), Fail> {
     let mut journal = made::<1>(rt.alloc(), 1, 64)?;
     let writes = WriteSet::of(Items::parse(&READS)?);
     for tid in 1..=65535 {
-        assert_eq!(rt; journal.add(tid, 1, &writes), Ok(0), "{}", tid);
-        assert_eq!(rt; journal.drop_oldest(), Ok(()), "{}", tid);
+        assert_eq!(rt; journal.add(tid, 1, &writes), Ok(0), "{tid}");
+        assert_eq!(rt; journal.drop_oldest(), Ok(()), "{tid}");
     }
     assert_eq!(rt; journal.highest(), 65535);
     assert_eq!(rt; journal.count(), 0);
@@ -180,7 +179,7 @@ fn an_entry_keeps_the_writes_of_its_list(rt: HostRuntime) -> Result<(), Fail> {
         ) => {
             assert_eq!(rt; node, 0);
             assert_eq!(rt; address, 5);
-            assert_eq!(rt; data, &[0x18]);
+            assert_eq!(rt; data, [0x18].as_slice());
         }
         _ => return Err(Fail::new("no write item")),
     }
@@ -204,22 +203,27 @@ fn a_reader_has_an_entry_without_writes(rt: HostRuntime) -> Result<(), Fail> {
 fn check_useless<const N: usize>(
     rt: &impl Abort,
     mut journal: TableJournal<N>,
+    what: &str,
 ) -> Result<(), Fail> {
     let writes = WriteSet::of(Items::parse(&READS)?);
-    assert!(rt; !journal.as_made());
-    assert_eq!(rt; journal.places(), 0);
-    assert_eq!(rt; journal.add(1, 1, &writes), Err(Refusal::NoRoom));
-    assert_eq!(rt; journal.force(1), Err(Refusal::NoRoom));
-    assert_eq!(rt; journal.count(), 0);
+    assert!(rt; !journal.as_made(), "{what}");
+    assert_eq!(rt; journal.places(), 0, "{what}");
+    assert_eq!(rt; journal.add(1, 1, &writes), Err(Refusal::NoRoom), "{what}");
+    assert_eq!(rt; journal.force(1), Err(Refusal::NoRoom), "{what}");
+    assert_eq!(rt; journal.count(), 0, "{what}");
     Ok(())
 }
 
 #[test]
 fn tables_that_are_too_small_make_no_journal(rt: HostRuntime) -> Result<(), Fail> {
-    check_useless(&rt, made::<4>(rt.alloc(), 3, 64)?).note("a table of 3 entries")?;
-    check_useless(&rt, made::<4>(rt.alloc(), 4, 63)?).note("a table of 63 forced aborts")?;
-    check_useless(&rt, made::<0>(rt.alloc(), 4, 64)?).note("capacity 0")?;
-    check_useless(&rt, made::<17>(rt.alloc(), 17, 64)?).note("capacity 17")
+    check_useless(&rt, made::<4>(rt.alloc(), 3, 64)?, "a table of 3 entries")?;
+    check_useless(
+        &rt,
+        made::<4>(rt.alloc(), 4, 63)?,
+        "a table of 63 forced aborts",
+    )?;
+    check_useless(&rt, made::<0>(rt.alloc(), 4, 64)?, "capacity 0")?;
+    check_useless(&rt, made::<17>(rt.alloc(), 17, 64)?, "capacity 17")
 }
 
 #[test]
