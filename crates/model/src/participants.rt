@@ -2,13 +2,13 @@
 
 ghost use Rattle.std.specs.Prelude.{◌≡◌, false, ◌&&◌, ◌||◌, get_or, ◌==◌, nat_lt, slice_index_or};
 ghost use Rattle.model.specs.Numbers.{most_nodes};
-ghost use Rattle.model.specs.Participants.{includes as isParticipant, every_member};
+ghost use Rattle.model.specs.Participants.{includes as is_participant, every_member};
 
 use crate::numbers::MOST_NODES;
 
 /// Whether a node takes part; a cluster has no node beyond the fourth.
 pub fn includes(participants: u8, node: u16) -> bool
-    ensures { result ≡ (nat_lt node most_nodes && isParticipant participants node) }
+    ensures { result ≡ (nat_lt node most_nodes && is_participant participants node) }
 {
     node < 4 && participants & (1 << node) != 0
 }

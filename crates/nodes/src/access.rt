@@ -5,7 +5,7 @@ ghost use Rattle.model.specs.Cells.{matches_at};
 ghost use Rattle.model.specs.Deeds.{touched_by};
 ghost use Rattle.model.specs.ItemFormat.{is_item};
 ghost use Rattle.model.specs.Numbers.{longest_item};
-ghost use Rattle.model.specs.Ranges.{holds as isTrue, all_hold, put_item};
+ghost use Rattle.model.specs.Ranges.{holds as is_true, all_hold, put_item};
 ghost use Rattle.model.specs.Journal.{Journal as Log};
 ghost use Rattle.model.specs.Writes.{put};
 ghost use Rattle.nodes.specs.Budgets.{both, puts, MadeOne, Made};
@@ -34,7 +34,7 @@ fn matches_at<M: Memory>(memory: &M, address: u16, wanted: &[u8]) -> bool
 /// Whether a comparison is true; another item asks nothing.
 fn holds<M: Memory>(memory: &M, item: &Item<'_>) -> bool
     requires { is_item (item_meaning item.now) ≡ true }
-    ensures { result ≡ isTrue (M.bytes memory.now) (item_meaning item.now) }
+    ensures { result ≡ is_true (M.bytes memory.now) (item_meaning item.now) }
 {
     match item {
         Item::Compare { address, data, .. } => matches_at(memory, *address, data),

@@ -1,7 +1,7 @@
 //! Write budgets: after how many durable writes power fails in a call.
 
 ghost use Rattle.std.specs.Prelude.{◌≡◌, not};
-ghost use Rattle.model.specs.Writes.{fails as isLimited};
+ghost use Rattle.model.specs.Writes.{fails as is_limited};
 ghost use Rattle.nodes.specs.Budgets.{spent, allows};
 
 /// How many durable writes a call may still make before power fails; 255 is no failure.
@@ -28,7 +28,7 @@ impl Budget {
 
     /// Whether power fails in the call.
     pub fn fails(&self) -> bool
-        ensures { result ≡ isLimited self.now.left }
+        ensures { result ≡ is_limited self.now.left }
     {
         self.left < 255
     }

@@ -3,7 +3,7 @@
 ghost use Rattle.std.specs.Prelude.{◌≡◌, ℕ, [], if◌then◌else◌, Some, None};
 ghost use Rattle.model.specs.Handling.{queried, acknowledged as acknowledging, replied, inquired, is_settled, is_oldest};
 ghost use Rattle.std.specs.Option.{option_map};
-ghost use Rattle.model.specs.Journal.{is_empty, has_entry, is_forced_full, oldest as oldestOf};
+ghost use Rattle.model.specs.Journal.{is_empty, has_entry, is_forced_full, oldest as oldest_of};
 ghost use Rattle.journal.specs.Entries.{entry_meaning};
 ghost use Rattle.nodes.specs.Effects.{Done, Reacts};
 ghost use Rattle.nodes.specs.declared.response.Content.TheVariants.{Reply};
@@ -52,7 +52,7 @@ impl<M: Memory, J: Journal> Node<M, J> {
 
     /// The oldest entry, if there is one.
     pub(crate) fn oldest(&self) -> Option<EntryView<'_>>
-        ensures { option_map entry_meaning result ≡ (if is_empty (J.log self.now.journal) then None else Some (oldestOf (J.log self.now.journal))) }
+        ensures { option_map entry_meaning result ≡ (if is_empty (J.log self.now.journal) then None else Some (oldest_of (J.log self.now.journal))) }
     {
         match self.journal.place(0) {
             Some(place) => self.journal.entry(place),

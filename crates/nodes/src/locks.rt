@@ -2,7 +2,7 @@
 
 ghost use Rattle.std.specs.Prelude.{◌≡◌};
 ghost use Rattle.model.specs.Lists.{some};
-ghost use Rattle.model.specs.Ranges.{overlap, clash as isClash, clashing};
+ghost use Rattle.model.specs.Ranges.{overlap, clash as is_clash, clashing};
 ghost use Rattle.records.specs.Meaning.{item_meaning};
 ghost use Rattle.records.specs.Cursor.{items_meaning};
 
@@ -21,14 +21,14 @@ fn overlaps(one: &Item<'_>, other: &Item<'_>) -> bool
 
 /// Whether two items of one node share a byte, and one of them writes it.
 pub fn clash(one: &Item<'_>, other: &Item<'_>) -> bool
-    ensures { result ≡ isClash (item_meaning one.now) (item_meaning other.now) }
+    ensures { result ≡ is_clash (item_meaning one.now) (item_meaning other.now) }
 {
     (one.is_write() || other.is_write()) && overlaps(one, other)
 }
 
 /// Whether an item clashes with one of a list.
 fn clashes_with(item: &Item<'_>, others: Items<'_>) -> bool
-    ensures { result ≡ some (λ j. isClash (item_meaning item.now) j) (items_meaning others.entry) }
+    ensures { result ≡ some (λ j. is_clash (item_meaning item.now) j) (items_meaning others.entry) }
 {
     for other in others {
         if clash(item, &other) {

@@ -149,7 +149,7 @@ module _ (items : ℕ → List Item) (sizes : ℕ → ℕ) (count : ℕ) (h : Pa
         go b false r z = absurd (let y : ◌≡◌ {A = ℕ} 0 1 = cc in omega arith)
 
     resolved_node_fits : (u' : Unresolved) → UnresolvedFits items S (journal_of n) u' → u'.tid ≡ tid → (n.volatile.condition ≡ Up → ⊥) → NodeFits items S sizes q (record { stores = n.stores; volatile = with_unresolved n.volatile tid u' })
-    resolved_node_fits u' f e not-up = record {
+    resolved_node_fits u' f e not_up = record {
       size = fits.size;
       entries = fits.entries;
       doubts = fits.doubts;
@@ -157,7 +157,7 @@ module _ (items : ℕ → List Item) (sizes : ℕ → ℕ) (count : ℕ) (h : Pa
       doubts_open = fits.doubts_open;
       open_doubts = fits.open_doubts;
       unresolved = all_set (UnresolvedFits items S (journal_of n)) us (place unresolved_tid tid us) u' fits.unresolved (λ _. f);
-      none_unresolved = λ z. absurd (not-up z);
+      none_unresolved = λ z. absurd (not_up z);
       open_unresolved = λ r. all_map _ _ (λ x g o. some_set x.tid tid us u' e (g o)) (journal_of n).entries (fits.open_unresolved r);
       acknowledged = fits.acknowledged;
     }
@@ -165,15 +165,15 @@ module _ (items : ℕ → List Item) (sizes : ℕ → ℕ) (count : ℕ) (h : Pa
   pub step_replied : (budget : ℕ) (a : Answer) (tid p : ℕ) (b : Bool) → (n.volatile.condition ≡ Up → ⊥) → Justified B S (says_reply tid p b)
       → Step items sizes count h w c (wrote_by q budget (replied q n tid (NodeParty p) b)) (carried c q budget (replied q n tid (NodeParty p) b) a).1
   unfolding prepares
-  step_replied budget a tid p b not-up j = cond_both (is_unresolved n.volatile tid) _ _ (λ (e : Effect). Step items sizes count h w c (wrote_by q budget e) (carried c q budget e a).1)
+  step_replied budget a tid p b not_up j = cond_both (is_unresolved n.volatile tid) _ _ (λ (e : Effect). Step items sizes count h w c (wrote_by q budget e) (carried c q budget e a).1)
       (λ z. go b j z)
       (λ _. step_without_effect items sizes count h w c s q l budget a)
     where
       go : (b : Bool) → Justified B S (says_reply tid p b) → (z : is_unresolved n.volatile tid ≡ true)
           → Step items sizes count h w c (wrote_by q budget (record { writes = []; volatile = with_unresolved n.volatile tid (heard q (NodeParty p) b (unresolved_of n.volatile tid)); sent = [] }))
           (carried c q budget (record { writes = []; volatile = with_unresolved n.volatile tid (heard q (NodeParty p) b (unresolved_of n.volatile tid)); sent = [] }) a).1
-      go true j z = step_quiet items sizes count h w c s q l budget a (with_unresolved n.volatile tid (agreed_by q p (unresolved_of n.volatile tid))) [] refl (resolved_node_fits tid z _ (yes_fits tid z p j) (u_tid tid z) not-up) (λ _ _. refl) tt tt
-      go false j z = step_quiet items sizes count h w c s q l budget a (with_unresolved n.volatile tid (resolved_as (unresolved_of n.volatile tid) false)) [] refl (resolved_node_fits tid z _ (no_fits tid z p j) (u_tid tid z) not-up) (λ _ _. refl) tt tt
+      go true j z = step_quiet items sizes count h w c s q l budget a (with_unresolved n.volatile tid (agreed_by q p (unresolved_of n.volatile tid))) [] refl (resolved_node_fits tid z _ (yes_fits tid z p j) (u_tid tid z) not_up) (λ _ _. refl) tt tt
+      go false j z = step_quiet items sizes count h w c s q l budget a (with_unresolved n.volatile tid (resolved_as (unresolved_of n.volatile tid) false)) [] refl (resolved_node_fits tid z _ (no_fits tid z p j) (u_tid tid z) not_up) (λ _ _. refl) tt tt
 
   -- ## An inquiry
 

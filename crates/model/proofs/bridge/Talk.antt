@@ -140,7 +140,7 @@ module _ (items : ℕ → List Item) (sizes : ℕ → ℕ) (count : ℕ) (h : Pa
   -- the bytes that a decide gives with a yes are those that the nodes saw
   pub reads_given : (tid : ℕ) → has_coordinator c tid ≡ true → all_voted (coordinator_of c tid) ≡ true → decision (coordinator_of c tid) ≡ true
       → reads_of (coordinator_of c tid) ≡ reads_by_node (saw_at S tid) (items tid)
-  reads_given tid there all yes-all =
+  reads_given tid there all yes_all =
       subst (λ n. reads_of k ≡ reads_by_node (saw_at S n) (items n)) same
       (ap (λ ps. joined_by (λ q. get_or k.reads q []) (members ps)) fits.participants
       ∙ joined_by_alike (λ q. get_or k.reads q []) (λ q. items_read (saw_at S k.tid q) (items_at q (items k.tid))) (members (participants_of (items k.tid)))
@@ -158,7 +158,7 @@ module _ (items : ℕ → List Item) (sizes : ℕ → ℕ) (count : ℕ) (h : Pa
       one : (q : ℕ) → has q (members (participants_of (items k.tid))) ≡ true → get_or k.reads q [] ≡ items_read (saw_at S k.tid q) (items_at q (items k.tid))
       one q z =
           let v = some_value (get_or k.votes q None) (every_has (has_voted k) (members (participants_of (items k.tid))) q (subst (λ ps. every_member (has_voted k) ps ≡ true) fits.participants all) z) in
-          let y = every_has (λ q. is_yes (vote_from k q)) (members (participants_of (items k.tid))) q (subst (λ ps. every_member (λ q. is_yes (vote_from k q)) ps ≡ true) fits.participants yes-all) z in
+          let y = every_has (λ q. is_yes (vote_from k q)) (members (participants_of (items k.tid))) q (subst (λ ps. every_member (λ q. is_yes (vote_from k q)) ps ≡ true) fits.participants yes_all) z in
           let r : vote_from k q ≡ v.0 = ap (λ (o : Option Vote). unwrap_or o Busy) v.1 in
           fits.reads q v.0 v.1 (subst (λ (u : Vote). is_yes u ≡ true) r y)
 

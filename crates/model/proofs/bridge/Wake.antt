@@ -177,12 +177,12 @@ module _ (items : ℕ → List Item) (sizes : ℕ → ℕ) (count : ℕ) (within
   unfolding cluster_seen
   stood f x = go es fs zip x
     where
-      go : (es fs : List Entry) → Zip es fs → Some (λ (x : Entry). x ≡ f) fs → Some (λ (e : core.Entry). e.tid ≡ f.tid) (entries_seen es)
+      go : (ks fs : List Entry) → Zip ks fs → Some (λ (x : Entry). x ≡ f) fs → Some (λ (e : core.Entry). e.tid ≡ f.tid) (entries_seen ks)
       go [] [] z x = absurd x
       go [] (g ∷ gs) z x = absurd z
-      go (e ∷ es) [] z x = absurd z
-      go (e ∷ es) (g ∷ gs) z (inl r) = inl (z.0.1 ∙ ap (λ (y : Entry). y.tid) r)
-      go (e ∷ es) (g ∷ gs) z (inr r) = inr (go es gs z.1 r)
+      go (e ∷ ks) [] z x = absurd z
+      go (e ∷ ks) (g ∷ gs) z (inl r) = inl (z.0.1 ∙ ap (λ (y : Entry). y.tid) r)
+      go (e ∷ ks) (g ∷ gs) z (inr r) = inr (go ks gs z.1 r)
 
   found_fits : (f : Entry) → Some (λ (x : Entry). x ≡ f) fs → is_open j f ≡ true → EntryCopies items q f → UnresolvedFits items (state_with_node S q k) j (found q f)
   found_fits f x o copy = record {

@@ -4,14 +4,14 @@ use Rattle.model.proofs.core.State.{Book, up, Claim, Verdict, State, state_with_
 use Rattle.model.proofs.core.Facts.{Extends}
 use Rattle.model.proofs.core.YesEntry as yes
 use Rattle.model.proofs.core.YesEntry.{CanVoteYes}
-use Rattle.model.proofs.core.YesEntryMemories as yes-memories
+use Rattle.model.proofs.core.YesEntryMemories as yes_memories
 use Rattle.model.proofs.core.NetworkChange as network
 use Rattle.model.proofs.core.NetworkChange.{NetworkChange}
 use Rattle.model.proofs.core.Memories.{Invariant}
 
 module _ {V : Type 0} (B : Book V) (s : State V) (k : Invariant B s) where
   pub accepted : (i n q : ℕ) → CanVoteYes B s i n q → (s.nodes q).condition ≡ up → Invariant B (accept s i n q)
-  accepted i n q g u = record { agreement = yes.agreement B s k.agreement i n q g; memories = yes-memories.memories B s k.agreement k.memories i n q g u }
+  accepted i n q g u = record { agreement = yes.agreement B s k.agreement i n q g; memories = yes_memories.memories B s k.agreement k.memories i n q g u }
 
   pub accepted_extends : (i n q : ℕ) → CanVoteYes B s i n q → Extends B s (accept s i n q)
   accepted_extends i n q g = yes.extends B s k.agreement i n q g
