@@ -2,7 +2,7 @@
 use Rattle.std.proofs.Common.{◌≡◌, ℕ, suc, ◌+◌, ◌<◌, ◌≤◌, Bool, true, false, cond, not, ◌&&◌, ltb, leb, List, [], ◌∷◌, ◌++◌, length, take, drop, set, Some, None, Option, refl, ◌∙◌, arith, length-append, length-drop, length-set, length-take}
 use lib.ListN.{length-map}
 use Rattle.std.specs.List.{remove}
-use Rattle.std.proofs.lemmas.Bool.{cond_both, leb-true, leb-false, or_parts}
+use Rattle.std.proofs.lemmas.Bool.{cond_both, leb-true, leb-false, or_parts, not-false}
 use Rattle.model.specs.declared.condition.Condition.{Condition}
 use Rattle.model.specs.declared.condition.Condition.TheVariants.{Up, Down, Recovering}
 use Rattle.model.specs.declared.party.Party.{Party}
@@ -28,7 +28,7 @@ use Rattle.model.specs.Making.{making}
 use Rattle.model.specs.Calls.{Call, opens, delivers, loses, decides, leaves, recovers, rules, stops, cuts, wakes, inquires, resumes, settles, queries, collects, shows, Result, first_of, answered, carried, open_refusals, opening, open_items, prepare_to, place_refusals, message_at, without_message, reacted, delivered_to, delivering, coordinator_hears, recovery_hears, decide_refusals, deciding, finish_to, leave_refusals, without_coordinator, recover_refusals, recovering_of, inquiry_to, query_to, rule_refusals, ruling_of, stop_refusals, without_recovery, cut_refusals, wake_refusals, inquire_refusals, resume_refusals, settle_refusals, query_refusals, collect_refusals, show_refusals, performed, step}
 use Rattle.model.specs.History.{Event, following}
 use Rattle.model.specs.Bounds.{Bounded, EveryHistoryIsBounded}
-use Rattle.model.proofs.Telling.{none_holds, not-false}
+use Rattle.model.proofs.Telling.{none_holds}
 
 -- ## Lengths
 

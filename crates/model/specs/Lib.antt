@@ -14,6 +14,7 @@ pub mod Lists
 pub mod Cells
 pub mod Ranges
 pub mod Participants
+pub mod Parties
 pub mod Journal
 pub mod Writes
 pub mod Node

@@ -3,8 +3,6 @@
 ghost use Rattle.model.specs.RoundTrips.{OneToOne};
 
 /// Each request and each message has one record, which reads back as it, and each record is written again as it was read.
-pub fn records_are_one_to_one() -> u8
+pub fn records_are_one_to_one()
     ensures { OneToOne }
-{
-    0
-}
+{}

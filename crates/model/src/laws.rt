@@ -4,16 +4,12 @@ ghost use Rattle.model.specs.Laws.{EveryHistoryIsLawful};
 ghost use Rattle.model.specs.Theorem.{EveryClusterIsLawful};
 
 /// Every history that can be obeys the laws: agreement, shown bytes, serial comparisons and reads.
-pub fn every_history_is_lawful() -> u8
+pub fn every_history_is_lawful()
     ensures { EveryHistoryIsLawful }
-{
-    0
-}
+{}
 
 /// Whatever history leads to what a running cluster shows, the cluster is the plain one that follows it,
 /// the history is faithful, and it obeys the laws.
-pub fn every_cluster_is_lawful() -> u8
+pub fn every_cluster_is_lawful()
     ensures { EveryClusterIsLawful }
-{
-    0
-}
+{}

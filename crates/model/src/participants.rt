@@ -10,15 +10,15 @@ use crate::numbers::MOST_NODES;
 pub fn includes(participants: u8, node: u16) -> bool
     ensures { result ≡ (nat_lt node most_nodes && is_participant participants node) }
 {
-    node < 4 && participants & (1 << node) != 0
+    (node as usize) < MOST_NODES && participants & (1 << node) != 0
 }
 
 /// Whether something holds of every participant, given of which nodes it holds.
 pub fn every_member(participants: u8, holds: &[bool; MOST_NODES]) -> bool
     ensures { result ≡ every_member (λ q. get_or holds.now q false) participants }
 {
-    for node in 0..4 {
-        if includes(participants, node) && !holds[node as usize] {
+    for (node, held) in holds.iter().enumerate() {
+        if includes(participants, node as u16) && !*held {
             return false;
         }
     }
@@ -30,7 +30,7 @@ pub fn every_other(participants: u8, one: u16, holds: &[bool; MOST_NODES]) -> bo
     ensures { result ≡ every_member (λ q. (q == one) || slice_index_or holds.now q false) participants }
 {
     let mut others = *holds;
-    if one < 4 {
+    if (one as usize) < MOST_NODES {
         others[one as usize] = true;
     }
     every_member(participants, &others)

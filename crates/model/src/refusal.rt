@@ -1,7 +1,10 @@
 //! Why a call was refused. A refused call alters nothing.
 
-ghost use Rattle.std.specs.Prelude.{◌≡◌};
+ghost use Rattle.std.specs.Prelude.{◌≡◌, Some, decimal};
 ghost use Rattle.model.specs.Refusals.{refusal_number};
+
+use std::error::Error;
+use std::fmt;
 
 /// The reasons for which a reader, a writer, a store or a call refuses.
 #[derive(Clone, Copy, PartialEq, Eq, Debug)]
@@ -22,11 +25,23 @@ pub enum Refusal {
     Exhausted = 7,
 }
 
-impl Refusal {
-    /// The number by which a refusal is reported.
-    pub fn number(self) -> u8
-        ensures { result ≡ refusal_number self }
-    {
-        self as u8
+/// The number by which a refusal is reported.
+impl From<Refusal> for u8 {
+    ghost from_gives = { λ refusal number. number ≡ refusal_number refusal };
+
+    fn from(refusal: Refusal) -> u8 {
+        refusal as u8
     }
 }
+
+/// A refusal is printed as its number.
+impl fmt::Display for Refusal {
+    ghost output = { λ refusal. Some (decimal (refusal_number refusal)) };
+
+    fn fmt<W: fmt::Write>(&self, f: &mut fmt::Formatter<W>) -> fmt::Result {
+        let number = u8::from(*self);
+        write!(f, "{number}")
+    }
+}
+
+impl Error for Refusal {}

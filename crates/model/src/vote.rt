@@ -1,7 +1,11 @@
 //! What a memory node says to a prepare.
 
 ghost use Rattle.std.specs.Prelude.{◌≡◌};
+ghost use Rattle.std.specs.Option.{ok_or};
 ghost use Rattle.model.specs.Votes.{vote_number, vote_of};
+ghost use Rattle.model.specs.declared.refusal.Refusal.TheVariants.{Malformed};
+
+use crate::refusal::Refusal;
 
 /// A memory node's answer to a prepare; the cases are tried in the order 1, 2, 3, 4, 0.
 #[derive(Clone, Copy, PartialEq, Eq, Debug)]
@@ -18,25 +22,29 @@ pub enum Vote {
     Full = 4,
 }
 
-impl Vote {
-    /// The byte that stands for the vote in a message.
-    pub fn number(self) -> u8
-        ensures { result ≡ vote_number self }
-    {
-        self as u8
-    }
+/// The byte that stands for the vote in a message.
+impl From<Vote> for u8 {
+    ghost from_gives = { λ vote byte. byte ≡ vote_number vote };
 
-    /// The vote that a byte stands for, if it is one.
-    pub fn of_number(number: u8) -> Option<Vote>
-        ensures { result ≡ vote_of number }
-    {
-        match number {
-            0 => Some(Vote::Yes),
-            1 => Some(Vote::Busy),
-            2 => Some(Vote::Forced),
-            3 => Some(Vote::Mismatch),
-            4 => Some(Vote::Full),
-            _ => None,
+    fn from(vote: Vote) -> u8 {
+        vote as u8
+    }
+}
+
+/// The vote that a byte of a message stands for; a byte that stands for none is malformed.
+impl TryFrom<u8> for Vote {
+    type Error = Refusal;
+
+    ghost try_from_gives = { λ byte vote. vote ≡ ok_or (vote_of byte) Malformed };
+
+    fn try_from(byte: u8) -> Result<Vote, Refusal> {
+        match byte {
+            0 => Ok(Vote::Yes),
+            1 => Ok(Vote::Busy),
+            2 => Ok(Vote::Forced),
+            3 => Ok(Vote::Mismatch),
+            4 => Ok(Vote::Full),
+            _ => Err(Refusal::Malformed),
         }
     }
 }

@@ -1,5 +1,6 @@
 -- Justified writes of one node: after any of them, in order, the node has kept its entries. So power may fail anywhere.
 use Rattle.std.proofs.Common.{◌≡◌, ℕ, Bool, true, false, cond, ◌||◌, eqb, ◌⊎◌, List, [], ◌∷◌, ◌++◌, take, sym, refl, ap, ◌∙◌, ap₂, inl, inr, ⊎_elim, arith}
+use Rattle.std.proofs.Math.Bool.{or_assoc, or-false}
 use mathlib.Core.Path.{fun_ext}
 use Rattle.std.specs.List.{AllByRecursion as All}
 use Rattle.std.proofs.lemmas.Bool.{both_ways, cases_Bool, or_cases, or_right}
@@ -147,19 +148,11 @@ puts_followed (put v) keep = refl
 puts_followed keep (put v) = refl
 puts_followed (put u) (put v) = refl
 
-or_assoc : (a b c : Bool) → ((a || b) || c) ≡ (a || (b || c))
-or_assoc true b c = refl
-or_assoc false b c = refl
-
-or_false : (a : Bool) → (a || false) ≡ a
-or_false true = refl
-or_false false = refl
-
 module _ {V : Type 0} where
   pub write_all_items : (k : Node V) (ws : List (ℕ → Effect V))
       → write_all k (write_items ws) ≡ node k.condition (λ b. applied (together ws b) (k.memory b)) (λ b. k.written b || puts (together ws b)) k.entries k.pointer k.given k.forced
   unfolding write_all write_items together write
-  write_all_items k [] = ap (λ (l : ℕ → Bool). node k.condition k.memory l k.entries k.pointer k.given k.forced) (fun_ext (λ b. sym (or_false (k.written b))))
+  write_all_items k [] = ap (λ (l : ℕ → Bool). node k.condition k.memory l k.entries k.pointer k.given k.forced) (fun_ext (λ b. sym (or-false (k.written b))))
   write_all_items k (w ∷ ws) =
       write_all_items (write k (item w)) ws
       ∙ ap₂ (λ (m : ℕ → V) (l : ℕ → Bool). node k.condition m l k.entries k.pointer k.given k.forced)

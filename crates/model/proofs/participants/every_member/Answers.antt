@@ -6,8 +6,8 @@ use Rattle.model.proofs.participants.every_member.Goals as goal
 pub loop-node-init : goal.loop-node-init
 loop-node-init c = every_none (λ q. get_or c.args.holds.now q false) c.args.participants
 
-pub returns-then-not-holds-node : goal.returns-then-not-holds-node
-returns-then-not-holds-node c =
+pub returns-then-not-held : goal.returns-then-not-held
+returns-then-not-held c =
     sym (every_fails (λ q. get_or c.args.holds.now q false) c.args.participants c.loop-node.node 4 (omega arith) (search rules) (search rules))
 
 pub loop-node-preserved : goal.loop-node-preserved
