@@ -1,5 +1,7 @@
 -- One step of reading hexadecimal digits.
-use Rattle.std.proofs.Common.{◌≡◌, ℕ, ◌<◌, ◌≤◌, List, [], ◌∷◌, ◌++◌, length, get_or, drop, Some, None, Option, refl, ap, append_assoc, arith}
+use Rattle.std.proofs.Common.{◌≡◌, ℕ, ◌<◌, ◌≤◌, List, [], ◌∷◌, ◌++◌, length, ◌-◌, get_or, take, drop, Some, None, Option, refl, sym, ap, ◌∙◌, append_assoc, arith}
+use Rattle.std.proofs.Math.Seq.{take-length}
+use Rattle.std.proofs.lemmas.List.{length-drop}
 use Rattle.std.specs.Option.{option_map}
 use Rattle.text.specs.Hex.{hex_pair, hex_bytes, then_byte}
 
@@ -20,6 +22,10 @@ unfolding hex_bytes
 hex_step [] h = absurd (omega arith)
 hex_step (d ∷ []) h = absurd (omega arith)
 hex_step (d ∷ e ∷ ds) h = refl
+
+-- what is behind two digits is all that follows them
+pub behind_two : (ds : List ℕ) → take (length ds - 2) (drop 2 ds) ≡ drop 2 ds
+behind_two ds = ap (λ n. take n (drop 2 ds)) (sym (length-drop 2 ds)) ∙ take-length (drop 2 ds)
 
 -- one byte more in front of what is left
 pub mapped_more :

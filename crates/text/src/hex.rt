@@ -22,12 +22,8 @@ pub fn hex_digit(digit: u8) -> Option<u8>
 fn hex_pair(high: u8, low: u8) -> Option<u8>
     ensures { result ≡ hex_pair high low }
 {
-    let Some(high) = hex_digit(high) else {
-        return None;
-    };
-    let Some(low) = hex_digit(low) else {
-        return None;
-    };
+    let high = hex_digit(high)?;
+    let low = hex_digit(low)?;
     Some(high * 16 + low)
 }
 
@@ -37,17 +33,12 @@ pub fn read_hex(heap: Global, digits: &[u8]) -> Result<Option<Vec<u8>>, AllocErr
 {
     let mut bytes = Vec::new(heap);
     let mut rest = digits;
-    while rest.len() >= 2 {
-        let Some(byte) = hex_pair(rest[0], rest[1]) else {
+    while let [high, low, after @ ..] = rest {
+        let Some(byte) = hex_pair(*high, *low) else {
             return Ok(None);
         };
         bytes.push(byte)?;
-        let (_, after) = rest.split_at(2);
         rest = after;
     }
-    if rest.len() == 0 {
-        Ok(Some(bytes))
-    } else {
-        Ok(None)
-    }
+    Ok(rest.is_empty().then_some(bytes))
 }

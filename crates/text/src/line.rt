@@ -7,10 +7,8 @@ ghost use Rattle.text.specs.Lines.{without};
 pub fn without_last<'a>(bytes: &'a [u8], last: u8) -> &'a [u8]
     ensures { result.now ≡ without bytes.now last }
 {
-    let length = bytes.len();
-    if length > 0 && bytes[length - 1] == last {
-        &bytes[0..length - 1]
-    } else {
-        bytes
+    match bytes.split_last() {
+        Some((end, front)) if *end == last => front,
+        _ => bytes,
     }
 }
