@@ -39,6 +39,7 @@ impl Selection {
     }
 }
 
+// A count beside bytes of fixed size: nothing here may allocate, and the set is copied.
 /// Up to eight items. It is copied freely, and takes the same room whatever it holds.
 #[derive(Clone, Copy)]
 pub struct ItemSet {
@@ -61,7 +62,7 @@ impl ItemSet {
                 continue;
             }
             if count == MOST_ITEMS {
-                return ItemSet { count, bytes };
+                break;
             }
             let Some(next) = put_one(&mut bytes, end, &item) else {
                 continue;
