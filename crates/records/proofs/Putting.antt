@@ -12,7 +12,7 @@ use Rattle.records.specs.declared.item.Item.{Item}
 use Rattle.records.specs.Extents.{ItemsFit}
 use Rattle.records.specs.Kinds.{kind_number, kind_of, data_of}
 use Rattle.records.specs.Meaning.{item_meaning}
-use Rattle.records.proofs.Roads.{road_start, road_first, road_end}
+use Rattle.records.proofs.Roads.{road_first, road_end}
 
 -- the fields of an item, and its data
 pub item_bytes :
@@ -29,15 +29,6 @@ pub record Putting {S : Type 0} (steps : S → Option Item → S → Type 0) (it
   pub bytes : splice buffer end (encode_items left) ≡ splice start at (encode_items all)
 
 module _ {S : Type 0} (steps : S → Option Item → S → Type 0) where
-  pub fit_start : (s t : S) (at : ℕ) (buffer : List ℕ) → t ≡ s → ItemsFit steps s at buffer → ItemsFit steps t at buffer
-  fit_start s t at buffer e f =
-      record { listed = f.listed; yields = road_start steps item_meaning s t f.listed e f.yields; forms = f.forms; room = f.room }
-
-  pub putting_none :
-      (s t : S) (start : List ℕ) (at : ℕ) (all : List PlainItem) →
-      t ≡ s → AlwaysYields steps item_meaning s all → Putting steps t start at start at all
-  putting_none s t start at all e y = record { left = all; yields = road_start steps item_meaning s t all e y; bytes = refl }
-
   -- the next item has a form, and room
   pub fit_first :
       (s t : S) (x : Item) (at : ℕ) (buffer : List ℕ) →

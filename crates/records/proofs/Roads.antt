@@ -6,7 +6,7 @@ use Rattle.std.specs.Slice.Iter.{iter_rest}
 use Rattle.std.specs.declared.iter.Copied.{Copied}
 use Rattle.std.proofs.iter.Yields.{copies, fronts}
 use Rattle.std.proofs.lemmas.Iterator.{YieldsList, YieldsList-from_slice}
-use Rattle.std.proofs.lemmas.Iterator.Consumers.{YieldsList-at, YieldsList-from_copied, YieldsList-from_shown}
+use Rattle.std.proofs.lemmas.Iterator.Consumers.{YieldsList-from_copied, YieldsList-from_shown}
 use Rattle.records.specs.Cursor.{items_meaning, ItemStep}
 use Rattle.records.specs.Meaning.{item_meaning}
 use Rattle.records.specs.declared.item.Item.{Item}
@@ -30,12 +30,7 @@ pub copied_road :
     copied_source s ≡ t → iter_rest t ≡ xs → YieldsList (copies (fronts {A = Item})) item_meaning s (map item_meaning xs)
 copied_road s t xs source rest = mapped_road item_meaning (YieldsList-from_copied (YieldsList-from_slice xs (ap iter_rest source ∙ rest)))
 
--- ## The start of a loop, a turn, and its end
-
-pub road_start :
-    {S A B : Type 0} (steps : S → Option A → S → Type 0) (v : A → B) (s t : S) (all : List B) →
-    t ≡ s → AlwaysYields steps v s all → AlwaysYields steps v t all
-road_start steps v s t all e y = let road : YieldsList steps v s all = record { runs = y } in (YieldsList-at e road).runs
+-- ## A turn of a loop, and its end
 
 -- the first item and those behind it
 pub record First {S A B : Type 0} (steps : S → Option A → S → Type 0) (v : A → B) (x : A) (t : S) (all : List B) : Type 0 where

@@ -17,7 +17,7 @@ use Rattle.records.specs.declared.lists.Extent.{Extent}
 use Rattle.records.specs.Extents.{list_extent}
 use Rattle.records.specs.Meaning.{item_meaning}
 use Rattle.records.proofs.Again.{some_from_ok}
-use Rattle.records.proofs.Roads.{copied_road, road_start, road_first, road_end}
+use Rattle.records.proofs.Roads.{copied_road, road_first, road_end}
 
 -- ## The size so far and what is left make up the whole
 
@@ -173,9 +173,6 @@ pub record Counting {S : Type 0} (steps : S → Option Item → S → Type 0) (i
   pub sizing : Sizing size left all
 
 module _ {S : Type 0} (steps : S → Option Item → S → Type 0) where
-  pub counting_none : (s t : S) (all : List PlainItem) → t ≡ s → AlwaysYields steps item_meaning s all → Counting steps t 0 1 all
-  counting_none s t all e y = record { left = all; yields = road_start steps item_meaning s t all e y; number = omega arith; sizing = (refl, refl) }
-
   pub counting_more :
       (s t : S) (x : Item) (count size n : ℕ) (all : List PlainItem) →
       steps s (Some x) t →
@@ -190,17 +187,6 @@ module _ {S : Type 0} (steps : S → Option Item → S → Type 0) where
         number = omega (arith, k.number, ap length f.same);
         sizing = sizing_more size n (item_meaning x) k.left f.rest all f.same sized k.sizing;
       }
-
-  -- a ninth item is one too many
-  pub counting_full :
-      (s t : S) (x : Item) (count size : ℕ) (all : List PlainItem) →
-      steps s (Some x) t →
-      count ≡ 8 →
-      Counting steps s count size all →
-      None ≡ list_extent all
-  counting_full s t x count size all e full k =
-      let f = road_first steps item_meaning s t x k.left k.yields e
-      in extent_none all (size_none all (inr (omega (arith, k.number, ap length f.same, full))))
 
   -- an item without a size has no list
   pub counting_stuck :

@@ -77,6 +77,7 @@ fn well_formed(count: usize, bytes: &[u8]) -> bool
 impl<'a> Iterator for Items<'a> {
     type Item = Item<'a>;
 
+    // More than `YieldsFirstBy` of the library says: at the end the cursor stays as it is.
     ghost next_gives = { ItemStep };
 
     ghost remaining = { item_count items_meaning };

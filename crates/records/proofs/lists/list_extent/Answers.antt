@@ -1,21 +1,8 @@
 -- Each turn counts the next item and adds its size.
-use Rattle.std.proofs.Common.{rules, ◌∙◌, arith}
+use Rattle.std.proofs.Common.{◌∙◌, arith}
 use Rattle.records.specs.Meaning.{item_meaning}
-use Rattle.records.proofs.Sizing.{size_bound, counting_none, counting_more, counting_full, counting_stuck, counting_empty, counting_all}
+use Rattle.records.proofs.Sizing.{size_bound, counting_more, counting_stuck, counting_empty, counting_all}
 use Rattle.records.proofs.lists.list_extent.Goals as goal
-
-pub loop-item-init : goal.loop-item-init
-loop-item-init g c = (
-  search rules,
-  search rules,
-  omega arith,
-  omega arith,
-  λ is y. counting_none g.I.Iterator.next_gives _ _ is c.into_iter-item-iterator.ensures.into_iter_gives y,
-)
-
-pub returns-then-count-eq-MOST_ITEMS : goal.returns-then-count-eq-MOST_ITEMS
-returns-then-count-eq-MOST_ITEMS g c =
-    λ is y. counting_full g.I.Iterator.next_gives _ _ _ _ _ is c.in-Some.ensures.steps c.if-count-eq-MOST_ITEMS.true (c.loop-item.invariant.4 is y)
 
 pub returns-in_err-size : goal.returns-in_err-size
 returns-in_err-size g c =

@@ -1,17 +1,7 @@
 -- Each turn puts the next item behind the last one.
-use Rattle.std.proofs.Common.{rules, arith}
-use Rattle.records.proofs.Putting.{fit_start, fit_first, fit_rest, putting_none, putting_more, putting_all}
+use Rattle.std.proofs.Common.{arith}
+use Rattle.records.proofs.Putting.{fit_first, fit_rest, putting_more, putting_all}
 use Rattle.records.proofs.lists.put_items.Goals as goal
-
-pub loop-item-init : goal.loop-item-init
-loop-item-init g c =
-    let same = c.into_iter-item-iterator.ensures.into_iter_gives
-    in (
-      search rules,
-      search rules,
-      fit_start g.I.Iterator.next_gives _ _ _ _ same c.requires.in_bounds,
-      λ is y. putting_none g.I.Iterator.next_gives _ _ _ _ is same y,
-    )
 
 pub put_item-end-requires : goal.put_item-end-requires
 put_item-end-requires g c =
