@@ -54,6 +54,7 @@ impl ItemSet {
     pub fn of(items: Items<'_>, selection: Selection) -> ItemSet
         ensures { set_items result ≡ take most_items (only (selected selection) (items_meaning items.entry)) }
     {
+        // The count is a field of the answer, and `end` moves by the size of each item: no index is counted.
         let mut count = 0;
         let mut end = 0;
         let mut bytes = [0; ITEM_SET_BYTES];

@@ -50,6 +50,7 @@ pub(crate) fn list_extent<'a, I: Iterator<Item = Item<'a>>>(items: I) -> Option<
     requires ends { IsFinite (I.remaining items) }
     ensures { (is : List PlainItem) → AlwaysYields I.next_gives item_meaning items is → result ≡ list_extent is }
 {
+    // The count is half of the answer: a fold over both would have to name them as a pair.
     let mut count = 0;
     let mut size = 1;
     for item in items {
