@@ -1,2 +1,4 @@
 pub mod Meaning
 pub mod Headers
+pub mod Kinds
+pub mod PartyKinds

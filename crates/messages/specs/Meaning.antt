@@ -16,6 +16,10 @@ body_meaning (Reply b) = reply b
 body_meaning Query = query
 body_meaning Settled = settled
 
+abbrev pub body_read_meaning : Result Body Refusal → Result PlainBody Refusal
+body_read_meaning (Ok b) = Ok (body_meaning b)
+body_read_meaning (Err e) = Err e
+
 abbrev pub message_meaning : Message → PlainMessage
 message_meaning m =
     record { tid = m.header.tid; sender = m.header.sender; receiver = m.header.receiver; body = body_meaning m.body }

@@ -1,13 +1,17 @@
 //! Where the fields of a message stand in its record, and the header read and written there.
 
-ghost use Rattle.std.specs.Prelude.{◌≡◌, ◌∷◌, ◌++◌};
+ghost use Rattle.std.specs.Prelude.{◌≡◌, ◌+◌, ◌<◌, ◌∷◌, ◌++◌, length, slice_index};
+ghost use Rattle.std.specs.Option.{ok_or};
 ghost use Rattle.model.specs.ItemFormat.{be16};
 ghost use Rattle.model.specs.Requests.{version};
-ghost use Rattle.model.specs.MessageFormat.{decode_party, encode_party};
+ghost use Rattle.model.specs.MessageFormat.{decode_party, encode_party, number_at};
+ghost use Rattle.model.specs.declared.refusal.Refusal.TheVariants.{Malformed};
 ghost use Rattle.messages.specs.Headers.{header_of};
+ghost use Rattle.messages.specs.PartyKinds.{party_kind_number, party_kind_numbered};
 
 use crate::message::Header;
 use model::party::Party;
+use model::refusal::Refusal;
 use records::record::VERSION;
 use records::writer::be_bytes;
 
@@ -22,21 +26,57 @@ const RECEIVER: usize = 9;
 /// The body, to the record's end.
 pub const BODY: usize = 12;
 
-/// The party that a kind byte and a number stand for; a coordinator's number is the tid.
-fn party(kind: u8, number: u16, tid: u16) -> Option<Party>
-    ensures { result ≡ decode_party tid kind number }
-{
-    match kind {
-        0 => Some(Party::Node(number)),
-        1 => {
-            if number == tid {
-                Some(Party::Coordinator)
-            } else {
-                None
-            }
+/// The kinds of parties.
+#[derive(Clone, Copy, PartialEq, Eq, Debug)]
+enum PartyKind {
+    Node = 0,
+    Coordinator = 1,
+    Recovery = 2,
+}
+
+/// The byte that stands for the kind of a party in a record.
+impl From<PartyKind> for u8 {
+    ghost from_gives = { λ kind byte. byte ≡ party_kind_number kind };
+
+    fn from(kind: PartyKind) -> u8 {
+        kind as u8
+    }
+}
+
+/// The kind of party that a byte of a record stands for; a byte that stands for none is malformed.
+impl TryFrom<u8> for PartyKind {
+    type Error = Refusal;
+
+    ghost try_from_gives = { λ byte kind. kind ≡ ok_or (party_kind_numbered byte) Malformed };
+
+    fn try_from(byte: u8) -> Result<PartyKind, Refusal> {
+        match byte {
+            0 => Ok(PartyKind::Node),
+            1 => Ok(PartyKind::Coordinator),
+            2 => Ok(PartyKind::Recovery),
+            _ => Err(Refusal::Malformed),
         }
-        2 => Some(Party::Recovery(number)),
-        _ => None,
+    }
+}
+
+/// The number of two bytes at a place.
+fn number_at(bytes: &[u8], at: usize) -> u16
+    requires { at + 1 < length bytes.now }
+    ensures { result ≡ number_at bytes.now at }
+{
+    u16::from_be_bytes([bytes[at], bytes[at + 1]])
+}
+
+/// The party at a place, if there is one; a coordinator's number is the tid.
+fn party_at(bytes: &[u8], at: usize, tid: u16) -> Option<Party>
+    requires { at + 2 < length bytes.now }
+    ensures { result ≡ decode_party tid (slice_index bytes.now at) (number_at bytes.now (at + 1)) }
+{
+    let number = number_at(bytes, at + 1);
+    match PartyKind::try_from(bytes[at]).ok()? {
+        PartyKind::Node => Some(Party::Node(number)),
+        PartyKind::Coordinator => (number == tid).then_some(Party::Coordinator),
+        PartyKind::Recovery => Some(Party::Recovery(number)),
     }
 }
 
@@ -47,19 +87,11 @@ pub fn read_header(bytes: &[u8]) -> Option<Header>
     if bytes.len() < BODY {
         return None;
     }
-    let tid = u16::from_be_bytes([bytes[TID], bytes[TID + 1]]);
-    let from = u16::from_be_bytes([bytes[SENDER + 1], bytes[SENDER + 2]]);
-    let Some(sender) = party(bytes[SENDER], from, tid) else {
-        return None;
-    };
-    let to = u16::from_be_bytes([bytes[RECEIVER + 1], bytes[RECEIVER + 2]]);
-    let Some(receiver) = party(bytes[RECEIVER], to, tid) else {
-        return None;
-    };
+    let tid = number_at(bytes, TID);
     Some(Header {
         tid,
-        sender,
-        receiver,
+        sender: party_at(bytes, SENDER, tid)?,
+        receiver: party_at(bytes, RECEIVER, tid)?,
     })
 }
 
@@ -68,34 +100,34 @@ fn party_bytes(party: Party, tid: u16) -> [u8; 3]
     ensures { result ≡ encode_party tid party }
 {
     let (kind, number) = match party {
-        Party::Node(number) => (0, number),
-        Party::Coordinator => (1, tid),
-        Party::Recovery(number) => (2, number),
+        Party::Node(number) => (PartyKind::Node, number),
+        Party::Coordinator => (PartyKind::Coordinator, tid),
+        Party::Recovery(number) => (PartyKind::Recovery, number),
     };
     let [high, low] = be_bytes(number);
-    [kind, high, low]
+    [u8::from(kind), high, low]
 }
 
 /// The bytes before a message's body.
 pub fn header_bytes(length: u16, kind: u8, header: Header) -> [u8; BODY]
     ensures { result ≡ be16 length ++ (version ∷ kind ∷ ((be16 header.tid ++ encode_party header.tid header.sender) ++ encode_party header.tid header.receiver)) }
 {
-    let length = be_bytes(length);
-    let tid = be_bytes(header.tid);
-    let sender = party_bytes(header.sender, header.tid);
-    let receiver = party_bytes(header.receiver, header.tid);
-    let mut bytes = [0; BODY];
-    bytes[0] = length[0];
-    bytes[1] = length[1];
-    bytes[2] = VERSION;
-    bytes[KIND] = kind;
-    bytes[TID] = tid[0];
-    bytes[TID + 1] = tid[1];
-    bytes[SENDER] = sender[0];
-    bytes[SENDER + 1] = sender[1];
-    bytes[SENDER + 2] = sender[2];
-    bytes[RECEIVER] = receiver[0];
-    bytes[RECEIVER + 1] = receiver[1];
-    bytes[RECEIVER + 2] = receiver[2];
-    bytes
+    let [length_high, length_low] = be_bytes(length);
+    let [tid_high, tid_low] = be_bytes(header.tid);
+    let [sender_kind, sender_high, sender_low] = party_bytes(header.sender, header.tid);
+    let [receiver_kind, receiver_high, receiver_low] = party_bytes(header.receiver, header.tid);
+    [
+        length_high,
+        length_low,
+        VERSION,
+        kind,
+        tid_high,
+        tid_low,
+        sender_kind,
+        sender_high,
+        sender_low,
+        receiver_kind,
+        receiver_high,
+        receiver_low,
+    ]
 }

@@ -1,12 +1,75 @@
 //! A message as a value; what it carries stands in the record that it was read from.
 
-ghost use Rattle.std.specs.Prelude.{◌≡◌};
-ghost use Rattle.messages.specs.Meaning.{body_meaning};
+ghost use Rattle.std.specs.Prelude.{◌≡◌, Some};
+ghost use Rattle.std.specs.Option.{ok_or};
+ghost use Rattle.model.specs.declared.refusal.Refusal.TheVariants.{Malformed};
 ghost use Rattle.model.specs.MessageFormat.{kind_of};
+ghost use Rattle.messages.specs.Kinds.{kind_number, kind_numbered, kind_text, body_kind};
+ghost use Rattle.messages.specs.Meaning.{body_meaning};
 
 use model::party::Party;
+use model::refusal::Refusal;
 use model::vote::Vote;
 use records::items::Items;
+use std::fmt;
+
+/// The kinds of messages.
+#[derive(Clone, Copy, PartialEq, Eq, Debug)]
+pub enum Kind {
+    Prepare = 1,
+    Vote = 2,
+    Finish = 3,
+    Inquiry = 4,
+    Reply = 5,
+    Query = 6,
+    Settled = 7,
+}
+
+/// The byte that stands for the kind in a record.
+impl From<Kind> for u8 {
+    ghost from_gives = { λ kind byte. byte ≡ kind_number kind };
+
+    fn from(kind: Kind) -> u8 {
+        kind as u8
+    }
+}
+
+/// The kind that a byte of a record stands for; a byte that stands for none is malformed.
+impl TryFrom<u8> for Kind {
+    type Error = Refusal;
+
+    ghost try_from_gives = { λ byte kind. kind ≡ ok_or (kind_numbered byte) Malformed };
+
+    fn try_from(byte: u8) -> Result<Kind, Refusal> {
+        match byte {
+            1 => Ok(Kind::Prepare),
+            2 => Ok(Kind::Vote),
+            3 => Ok(Kind::Finish),
+            4 => Ok(Kind::Inquiry),
+            5 => Ok(Kind::Reply),
+            6 => Ok(Kind::Query),
+            7 => Ok(Kind::Settled),
+            _ => Err(Refusal::Malformed),
+        }
+    }
+}
+
+/// A kind is printed by its name.
+impl fmt::Display for Kind {
+    ghost output = { λ kind. Some (kind_text kind) };
+
+    fn fmt<W: fmt::Write>(&self, f: &mut fmt::Formatter<W>) -> fmt::Result {
+        f.write_str(match self {
+            Kind::Prepare => "prepare",
+            Kind::Vote => "vote",
+            Kind::Finish => "finish",
+            Kind::Inquiry => "inquiry",
+            Kind::Reply => "reply",
+            Kind::Query => "query",
+            Kind::Settled => "settled",
+        })
+    }
+}
 
 /// What every message says first.
 #[derive(Clone, Copy)]
@@ -46,18 +109,19 @@ pub struct Message<'a> {
 }
 
 impl<'a> Body<'a> {
-    /// The byte that stands for the kind.
-    pub fn kind(&self) -> u8
-        ensures { result ≡ kind_of (body_meaning self.now) }
+    /// What kind of message it makes.
+    pub fn kind(&self) -> Kind
+        ensures kind { result ≡ body_kind (body_meaning self.now) }
+        ensures number { kind_number result ≡ kind_of (body_meaning self.now) }
     {
         match self {
-            Body::Prepare { .. } => 1,
-            Body::Vote { .. } => 2,
-            Body::Finish { .. } => 3,
-            Body::Inquiry => 4,
-            Body::Reply { .. } => 5,
-            Body::Query => 6,
-            Body::Settled => 7,
+            Body::Prepare { .. } => Kind::Prepare,
+            Body::Vote { .. } => Kind::Vote,
+            Body::Finish { .. } => Kind::Finish,
+            Body::Inquiry => Kind::Inquiry,
+            Body::Reply { .. } => Kind::Reply,
+            Body::Query => Kind::Query,
+            Body::Settled => Kind::Settled,
         }
     }
 }

@@ -1,13 +1,13 @@
 //! Messages read from their records.
 
 ghost use Rattle.std.specs.Prelude.{◌≡◌, true, IfOk};
-ghost use Rattle.std.specs.Option.{option_map, ok_or};
+ghost use Rattle.std.specs.Option.{ok_or};
 ghost use Rattle.model.specs.MessageFormat.{decode_flag, decode_prepare, decode_voted, decode_empty, decode_body, decode_message, reads_limit, encode_message, is_body};
 ghost use Rattle.model.specs.declared.refusal.Refusal.TheVariants.{Malformed};
-ghost use Rattle.messages.specs.Meaning.{body_meaning, message_meaning, read_meaning};
+ghost use Rattle.messages.specs.Meaning.{body_meaning, body_read_meaning, message_meaning, read_meaning};
 
 use crate::layout::{BODY, KIND, read_header};
-use crate::message::{Body, Message};
+use crate::message::{Body, Kind, Message};
 use model::numbers::MOST_READS;
 use model::refusal::Refusal;
 use model::vote::Vote;
@@ -22,72 +22,51 @@ pub fn read_message<'a>(bytes: &'a [u8]) -> Result<Message<'a>, Refusal>
     if !is_record(bytes) {
         return Err(Refusal::Malformed);
     }
-    let Some(header) = read_header(bytes) else {
-        return Err(Refusal::Malformed);
-    };
-    let kind = bytes[KIND];
-    let (_, content) = bytes.split_at(BODY);
-    match read_body(kind, content) {
-        Some(body) => Ok(Message { header, body }),
-        None => Err(Refusal::Malformed),
-    }
+    let header = read_header(bytes).ok_or(Refusal::Malformed)?;
+    let body = read_body(bytes[KIND], &bytes[BODY..])?;
+    Ok(Message { header, body })
 }
 
 /// The body that a kind and the bytes behind the header stand for.
-fn read_body<'a>(kind: u8, bytes: &'a [u8]) -> Option<Body<'a>>
-    ensures { option_map body_meaning result ≡ decode_body kind bytes.now }
+fn read_body<'a>(kind: u8, bytes: &'a [u8]) -> Result<Body<'a>, Refusal>
+    ensures { body_read_meaning result ≡ ok_or (decode_body kind bytes.now) Malformed }
 {
-    match kind {
-        1 => read_prepare(bytes),
-        2 => read_vote(bytes),
-        3 => match read_flag(bytes) {
-            Some(committed) => Some(Body::Finish { committed }),
-            None => None,
-        },
-        4 => read_empty(bytes, Body::Inquiry),
-        5 => match read_flag(bytes) {
-            Some(stands) => Some(Body::Reply { stands }),
-            None => None,
-        },
-        6 => read_empty(bytes, Body::Query),
-        7 => read_empty(bytes, Body::Settled),
-        _ => None,
+    match Kind::try_from(kind)? {
+        Kind::Prepare => read_prepare(bytes),
+        Kind::Vote => read_vote(bytes),
+        Kind::Finish => Ok(Body::Finish {
+            committed: read_flag(bytes)?,
+        }),
+        Kind::Inquiry => read_empty(bytes, Body::Inquiry),
+        Kind::Reply => Ok(Body::Reply {
+            stands: read_flag(bytes)?,
+        }),
+        Kind::Query => read_empty(bytes, Body::Query),
+        Kind::Settled => read_empty(bytes, Body::Settled),
     }
 }
 
 /// The participants, and the items of the receiver.
-fn read_prepare<'a>(bytes: &'a [u8]) -> Option<Body<'a>>
-    ensures { option_map body_meaning result ≡ decode_prepare bytes.now }
+fn read_prepare<'a>(bytes: &'a [u8]) -> Result<Body<'a>, Refusal>
+    ensures { body_read_meaning result ≡ ok_or (decode_prepare bytes.now) Malformed }
 {
-    if bytes.len() < 1 {
-        return None;
-    }
-    let participants = bytes[0];
-    let (_, list) = bytes.split_at(1);
-    match Items::parse(list) {
-        Ok(items) => Some(Body::Prepare {
-            participants,
-            items,
-        }),
-        Err(_) => None,
-    }
+    let (participants, list) = bytes.split_first().ok_or(Refusal::Malformed)?;
+    Ok(Body::Prepare {
+        participants: *participants,
+        items: Items::parse(list)?,
+    })
 }
 
 /// The vote and, only behind a yes, the bytes that were read.
-fn read_vote<'a>(bytes: &'a [u8]) -> Option<Body<'a>>
-    ensures { option_map body_meaning result ≡ decode_voted bytes.now }
+fn read_vote<'a>(bytes: &'a [u8]) -> Result<Body<'a>, Refusal>
+    ensures { body_read_meaning result ≡ ok_or (decode_voted bytes.now) Malformed }
 {
-    if bytes.len() < 1 {
-        return None;
-    }
-    let Some(vote) = Vote::of_number(bytes[0]) else {
-        return None;
-    };
-    let (_, reads) = bytes.split_at(1);
+    let (vote, reads) = bytes.split_first().ok_or(Refusal::Malformed)?;
+    let vote = Vote::try_from(*vote)?;
     if reads.len() > most_reads(vote) {
-        return None;
+        return Err(Refusal::Malformed);
     }
-    Some(Body::Vote { vote, reads })
+    Ok(Body::Vote { vote, reads })
 }
 
 /// How many read bytes may follow a vote.
@@ -101,22 +80,23 @@ pub(crate) fn most_reads(vote: Vote) -> usize
 }
 
 /// A body without bytes.
-fn read_empty<'a>(bytes: &[u8], body: Body<'a>) -> Option<Body<'a>>
-    ensures { option_map body_meaning result ≡ decode_empty (body_meaning body.entry) bytes.now }
+fn read_empty<'a>(bytes: &[u8], body: Body<'a>) -> Result<Body<'a>, Refusal>
+    ensures { body_read_meaning result ≡ ok_or (decode_empty (body_meaning body.entry) bytes.now) Malformed }
 {
-    if bytes.len() == 0 { Some(body) } else { None }
+    if bytes.is_empty() {
+        Ok(body)
+    } else {
+        Err(Refusal::Malformed)
+    }
 }
 
 /// One byte, 1 for yes and 0 for no.
-fn read_flag(bytes: &[u8]) -> Option<bool>
-    ensures { result ≡ decode_flag bytes.now }
+fn read_flag(bytes: &[u8]) -> Result<bool, Refusal>
+    ensures { result ≡ ok_or (decode_flag bytes.now) Malformed }
 {
-    if bytes.len() != 1 {
-        return None;
-    }
-    match bytes[0] {
-        0 => Some(false),
-        1 => Some(true),
-        _ => None,
+    match bytes {
+        [0] => Ok(false),
+        [1] => Ok(true),
+        _ => Err(Refusal::Malformed),
     }
 }

@@ -19,9 +19,7 @@ pub fn write_message(buffer: &mut [u8], message: &Message<'_>) -> Result<usize, 
     ensures value { (result, buffer.new) ≡ written (is_body (body_meaning message.now.body)) (encode_message (message_meaning message.now)) buffer.old }
     ensures back { IfOk result (λ n. decode_message (take n buffer.new) ≡ Some (message_meaning message.now)) }
 {
-    let Some(size) = body_size(&message.body) else {
-        return Err(Refusal::Malformed);
-    };
+    let size = body_size(&message.body).ok_or(Refusal::Malformed)?;
     if buffer.len() < BODY + size {
         return Err(Refusal::NoRoom);
     }
@@ -29,7 +27,7 @@ pub fn write_message(buffer: &mut [u8], message: &Message<'_>) -> Result<usize, 
     put(
         buffer,
         0,
-        &header_bytes(length, message.body.kind(), message.header),
+        &header_bytes(length, u8::from(message.body.kind()), message.header),
     );
     put_body(buffer, &message.body);
     Ok(BODY + size)
@@ -40,10 +38,10 @@ fn body_size(body: &Body<'_>) -> Option<usize>
     ensures { result ≡ (if is_body (body_meaning body.now) then Some (length (encode_body (body_meaning body.now))) else None) }
 {
     match body {
-        Body::Prepare { items, .. } => match list_size(*items) {
-            Some(size) => Some(1 + size),
-            None => None,
-        },
+        Body::Prepare { items, .. } => {
+            let size = list_size(*items)?;
+            Some(1 + size)
+        }
         Body::Vote { vote, reads } => {
             if reads.len() > most_reads(*vote) {
                 None
@@ -51,9 +49,8 @@ fn body_size(body: &Body<'_>) -> Option<usize>
                 Some(1 + reads.len())
             }
         }
-        Body::Finish { .. } => Some(1),
-        Body::Reply { .. } => Some(1),
-        _ => Some(0),
+        Body::Finish { .. } | Body::Reply { .. } => Some(1),
+        Body::Inquiry | Body::Query | Body::Settled => Some(0),
     }
 }
 
@@ -72,11 +69,12 @@ fn put_body(buffer: &mut [u8], body: &Body<'_>)
             put_list(buffer, BODY + 1, *items);
         }
         Body::Vote { vote, reads } => {
-            put(buffer, BODY, &[vote.number()]);
+            put(buffer, BODY, &[u8::from(*vote)]);
             put(buffer, BODY + 1, reads);
         }
-        Body::Finish { committed } => put(buffer, BODY, &[*committed as u8]),
-        Body::Reply { stands } => put(buffer, BODY, &[*stands as u8]),
-        _ => {}
+        Body::Finish { committed: flag } | Body::Reply { stands: flag } => {
+            put(buffer, BODY, &[u8::from(*flag)]);
+        }
+        Body::Inquiry | Body::Query | Body::Settled => {}
     }
 }

@@ -1,5 +1,6 @@
 //! Messages, whole and damaged.
 
+use crate::answers::{changed, number_of};
 use messages::message::Body;
 use messages::reader::read_message;
 use model::party::Party;
@@ -15,7 +16,7 @@ const PREPARE: [u8; 20] = [
     0x00, 0x05, 0x01, 0x18,
 ];
 /// tid 258, from node 1 to its coordinator: yes, two bytes were read.
-const VOTE: [u8; 15] = [
+pub(crate) const VOTE: [u8; 15] = [
     0x00, 0x0d, 0x01, 0x02, 0x01, 0x02, 0x00, 0x00, 0x01, 0x01, 0x01, 0x02, 0x00, 0x18, 0x07,
 ];
 /// tid 7, from its coordinator to node 0: yes.
@@ -41,16 +42,13 @@ const SETTLED: [u8; 12] = [
 
 /// 0 where the bytes are a message, else the refusal's number.
 fn answer(bytes: &[u8]) -> u8 {
-    match read_message(bytes) {
-        Ok(_) => 0,
-        Err(refusal) => refusal.number(),
-    }
+    number_of(read_message(bytes))
 }
 
 /// The kind of a message; 0 where it is none.
 fn kind(bytes: &[u8]) -> u8 {
     match read_message(bytes) {
-        Ok(message) => message.body.kind(),
+        Ok(message) => u8::from(message.body.kind()),
         Err(_) => 0,
     }
 }
@@ -185,15 +183,7 @@ fn a_prepare_has_one_to_eight_items(rt: HostRuntime) {
     assert_eq!(rt; with_body(1, &[]), 1);
 }
 
-/// A finish about tid 7 with one byte changed.
-fn changed(place: usize, value: u8) -> u8 {
-    let mut record = FINISH;
-    if place < record.len() {
-        record[place] = value;
-    }
-    answer(&record)
-}
-
+/// A finish with one byte changed.
 #[test]
 fn one_byte_decides(rt: HostRuntime) {
     let cases = [
@@ -219,7 +209,11 @@ fn one_byte_decides(rt: HostRuntime) {
         (12, 2, 1),
     ];
     for (place, value, expected) in cases {
-        assert_eq!(rt; changed(place, value), expected, "{value} at {place}");
+        assert_eq!(rt;
+            answer(&changed(FINISH, place, value)),
+            expected,
+            "{value} at {place}"
+        );
     }
 }
 

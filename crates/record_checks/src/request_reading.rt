@@ -1,11 +1,12 @@
 //! Requests, whole and damaged.
 
+use crate::answers::{changed, number_of};
 use records::item::Item;
 use records::request::read_request;
 use std::test::Fail;
 
 /// One item: write 0x18 at address 5 of node 0.
-const SAMPLE: [u8; 10] = [0x00, 0x08, 0x01, 0x01, 0x03, 0x00, 0x00, 0x05, 0x01, 0x18];
+pub(crate) const SAMPLE: [u8; 10] = [0x00, 0x08, 0x01, 0x01, 0x03, 0x00, 0x00, 0x05, 0x01, 0x18];
 
 /// Compare two bytes of node 0, read three of node 1, write one of node 2.
 const THREE_ITEMS: [u8; 22] = [
@@ -21,10 +22,7 @@ const NINE_READS: [u8; 49] = [
 
 /// 0 where the bytes are a request, else the refusal's number.
 fn answer(bytes: &[u8]) -> u8 {
-    match read_request(bytes) {
-        Ok(_) => 0,
-        Err(refusal) => refusal.number(),
-    }
+    number_of(read_request(bytes))
 }
 
 #[test]
@@ -78,14 +76,6 @@ fn items_come_in_order(rt: HostRuntime) -> Result<(), Fail> {
 }
 
 /// The sample with one byte changed.
-fn changed(place: usize, value: u8) -> u8 {
-    let mut record = SAMPLE;
-    if place < record.len() {
-        record[place] = value;
-    }
-    answer(&record)
-}
-
 #[test]
 fn one_byte_decides(rt: HostRuntime) {
     let cases = [
@@ -109,7 +99,11 @@ fn one_byte_decides(rt: HostRuntime) {
         (9, 255, 0),
     ];
     for (place, value, expected) in cases {
-        assert_eq!(rt; changed(place, value), expected, "{value} at {place}");
+        assert_eq!(rt;
+            answer(&changed(SAMPLE, place, value)),
+            expected,
+            "{value} at {place}"
+        );
     }
 }
 
@@ -117,12 +111,7 @@ fn one_byte_decides(rt: HostRuntime) {
 fn one_item(kind: u8, length: u8, held: u8) -> u8 {
     let mut bytes = [0; 264];
     let [high, low] = (7 + held as u16).to_be_bytes();
-    bytes[0] = high;
-    bytes[1] = low;
-    bytes[2] = 1;
-    bytes[3] = 1;
-    bytes[4] = kind;
-    bytes[8] = length;
+    bytes[..9].copy_from_slice(&[high, low, 1, 1, kind, 0, 0, 0, length]);
     answer(&bytes[..9 + held as usize])
 }
 

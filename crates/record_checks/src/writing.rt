@@ -1,5 +1,7 @@
 //! Requests and messages written: what fits, what does not, and what no record holds.
 
+use crate::message_reading::VOTE;
+use crate::request_reading::SAMPLE;
 use messages::message::{Body, Header, Message};
 use messages::reader::read_message;
 use messages::writer::write_message;
@@ -13,14 +15,6 @@ use std::test::Fail;
 
 /// What stands in a buffer before anything is written.
 const BEFORE: u8 = 0xee;
-
-/// One item: write 0x18 at address 5 of node 0.
-const SAMPLE: [u8; 10] = [0x00, 0x08, 0x01, 0x01, 0x03, 0x00, 0x00, 0x05, 0x01, 0x18];
-
-/// tid 258, from node 1 to its coordinator: yes, two bytes were read.
-const VOTE: [u8; 15] = [
-    0x00, 0x0d, 0x01, 0x02, 0x01, 0x02, 0x00, 0x00, 0x01, 0x01, 0x01, 0x02, 0x00, 0x18, 0x07,
-];
 
 /// The items are refused in a buffer of this size, and it keeps every byte.
 fn check_refused(rt: &impl Abort, items: &[Item<'_>], room: usize, why: Refusal) {

@@ -10,7 +10,7 @@ use Rattle.model.proofs.WritesAgain.{request_again}
 use Rattle.records.specs.declared.items.Items.{Items}
 use Rattle.records.specs.Cursor.{items_meaning, list_meaning}
 
-some_from_ok : {X E : Type 0} (x : X) (o : Option X) (e : E) → Ok x ≡ ok_or o e → o ≡ Some x
+pub some_from_ok : {X E : Type 0} (x : X) (o : Option X) (e : E) → Ok x ≡ ok_or o e → o ≡ Some x
 some_from_ok x None e h = cc
 some_from_ok x (Some y) e h = cc
 

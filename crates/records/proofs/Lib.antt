@@ -1,6 +1,6 @@
 pub mod Taking
+pub mod Roads
 mod Keeping
-mod Puts
 mod Sizing
 mod Putting
 mod Again

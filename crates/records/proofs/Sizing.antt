@@ -1,22 +1,23 @@
 -- Adding up the size of an item list, one item after the other.
-use Rattle.std.proofs.Common.{◌≡◌, ℕ, ◌+◌, ◌<◌, ◌≤◌, Bool, true, false, cond, ◌&&◌, ◌⊎◌, List, [], ◌∷◌, map, length, get_or, drop, Some, None, Option, sym, refl, ap, ◌∙◌, ap₂, inl, inr, arith}
-use Rattle.std.proofs.lemmas.List.{at_drop_more}
+use Rattle.std.proofs.Common.{◌≡◌, ℕ, ◌+◌, ◌<◌, ◌≤◌, Bool, true, false, cond, ◌&&◌, ◌⊎◌, List, [], ◌∷◌, map, length, Some, None, Option, Ok, Err, Iter, sym, refl, ap, ◌∙◌, ap₂, inl, inr, arith}
 use Rattle.std.proofs.lemmas.Bool.Decides.{nat_tests}
+use Rattle.std.specs.Iterator.{AlwaysYields}
+use Rattle.std.specs.Iterator.Adapters.{copied_source}
+use Rattle.std.specs.Slice.Iter.{iter_rest}
+use Rattle.std.specs.declared.iter.Copied.{Copied}
+use Rattle.std.proofs.iter.Yields.{copies, fronts}
+use Rattle.std.specs.Option.{option_map, ok_or}
+use Rattle.model.specs.declared.refusal.Refusal.{Refusal}
+use Rattle.model.specs.declared.refusal.Refusal.TheVariants.{Malformed}
 use Rattle.model.specs.Items.{Item as PlainItem}
 use Rattle.model.specs.ItemFormat.{encode_item, encode_items, encode_list, is_item, are_items, is_list, list_size}
 use Rattle.model.proofs.ItemLists.{encode_none, encode_more_length, are_none, are_more, encode_bound}
 use Rattle.records.specs.declared.item.Item.{Item}
 use Rattle.records.specs.declared.lists.Extent.{Extent}
 use Rattle.records.specs.Extents.{list_extent}
-use Rattle.records.specs.Meaning.{item_meaning, no_item}
-
--- ## The first item of what is left of a slice
-
-pub first_left :
-    (xs : List Item) (k : ℕ) →
-    k < length xs →
-    map item_meaning (drop k xs) ≡ item_meaning (get_or xs k no_item) ∷ map item_meaning (drop (k + 1) xs)
-first_left xs k h = at_drop_more (map item_meaning) xs k no_item h
+use Rattle.records.specs.Meaning.{item_meaning}
+use Rattle.records.proofs.Again.{some_from_ok}
+use Rattle.records.proofs.Roads.{copied_road, road_first, road_end}
 
 -- ## The size so far and what is left make up the whole
 
@@ -85,6 +86,16 @@ size_none all (inr h) = grind (arith, nat_tests)
 
 -- ## The size with the count
 
+pub extent_size : (all : List PlainItem) → option_map (λ (x : Extent). x.size) (list_extent all) ≡ list_size all
+extent_size all = go (is_list all)
+  where
+    go :
+        (b : Bool) →
+        ◌≡◌ {A = Option ℕ} (option_map (λ (x : Extent). x.size) (cond b (Some (record { count = length all; size = length (encode_list all) })) None))
+        (cond b (Some (length (encode_list all))) None)
+    go true = refl
+    go false = refl
+
 pub extent_none : (all : List PlainItem) → None ≡ list_size all → None ≡ list_extent all
 extent_none all e = grind (arith, nat_tests)
 
@@ -102,6 +113,15 @@ extent_some all n size count e = go (is_list all) e
     go true e = let s : size ≡ length (encode_list all) = cc in ap₂ (λ k m. Some (record { count = k; size = m })) count s
     go false e = cc
 
+pub extent_formless : (all : List PlainItem) → None ≡ list_extent all → is_list all ≡ false
+extent_formless all e = go (is_list all) e
+  where
+    go :
+        (b : Bool) →
+        ◌≡◌ {A = Option Extent} None (cond b (Some (record { count = length all; size = length (encode_list all) })) None) → b ≡ false
+    go true e = cc
+    go false e = refl
+
 pub extent_sized :
     (all : List PlainItem) (x : Extent) →
     Some x ≡ list_extent all →
@@ -114,3 +134,90 @@ extent_sized all x e = go (is_list all) e
         (b ≡ true) × (x.count ≡ length all) × (x.size ≡ length (encode_list all))
     go true e = (refl, cc, cc)
     go false e = let z : ◌≡◌ {A = ℕ} 0 1 = cc in absurd (omega arith)
+
+-- ## What a writer does with the extent
+
+pub extent_kept :
+    (all : List PlainItem) (o : Option Extent) (x : Extent) →
+    o ≡ list_extent all →
+    Ok x ≡ ok_or o Malformed →
+    (is_list all ≡ true) × (x.count ≡ length all) × (x.size ≡ length (encode_list all))
+extent_kept all o x e k = extent_sized all x (sym (some_from_ok x o Malformed k) ∙ e)
+
+pub extent_refused :
+    (all : List PlainItem) (o : Option Extent) (why : Refusal) →
+    o ≡ list_extent all →
+    Err why ≡ ok_or o Malformed →
+    (is_list all ≡ false) × (why ≡ Malformed)
+extent_refused all None why e k = (extent_formless all e, cc)
+extent_refused all (Some x) why e k = let z : ◌≡◌ {A = ℕ} 0 1 = cc in absurd (omega arith)
+
+-- the same of the extent of a slice
+pub slice_kept :
+    (s : Copied (Iter Item)) (t : Iter Item) (xs : List Item) (o : Option Extent) (x : Extent) →
+    copied_source s ≡ t →
+    iter_rest t ≡ xs →
+    ((is : List PlainItem) → AlwaysYields (copies (fronts {A = Item})) item_meaning s is → o ≡ list_extent is) →
+    Ok x ≡ ok_or o Malformed →
+    (is_list (map item_meaning xs) ≡ true) × (x.count ≡ length (map item_meaning xs)) × (x.size ≡ length (encode_list (map item_meaning xs)))
+slice_kept s t xs o x source rest e k =
+    extent_kept (map item_meaning xs) o x (e (map item_meaning xs) (copied_road s t xs source rest).runs) k
+
+-- ## The items that an iterator gives
+
+-- what was counted and added up and what is left make up the whole
+pub record Counting {S : Type 0} (steps : S → Option Item → S → Type 0) (items : S) (count size : ℕ) (all : List PlainItem) : Type 0 where
+  pub left : List PlainItem
+  pub yields : AlwaysYields steps item_meaning items left
+  pub number : count + length left ≡ length all
+  pub sizing : Sizing size left all
+
+module _ {S : Type 0} (steps : S → Option Item → S → Type 0) where
+  pub counting_more :
+      (s t : S) (x : Item) (count size n : ℕ) (all : List PlainItem) →
+      steps s (Some x) t →
+      Some n ≡ item_size (item_meaning x) →
+      Counting steps s count size all →
+      Counting steps t (count + 1) (size + n) all
+  counting_more s t x count size n all e sized k =
+      let f = road_first steps item_meaning s t x k.left k.yields e
+      in record {
+        left = f.rest;
+        yields = f.yields;
+        number = omega (arith, k.number, ap length f.same);
+        sizing = sizing_more size n (item_meaning x) k.left f.rest all f.same sized k.sizing;
+      }
+
+  -- an item without a size has no list
+  pub counting_stuck :
+      (s t : S) (x : Item) (count size : ℕ) (all : List PlainItem) →
+      steps s (Some x) t →
+      None ≡ item_size (item_meaning x) →
+      Counting steps s count size all →
+      None ≡ list_extent all
+  counting_stuck s t x count size all e unsized k =
+      let f = road_first steps item_meaning s t x k.left k.yields e
+      in extent_none all (sizing_stuck size (item_meaning x) k.left f.rest all f.same unsized k.sizing)
+
+  pub counting_empty :
+      (s t : S) (count size : ℕ) (all : List PlainItem) →
+      steps s None t →
+      count ≡ 0 →
+      Counting steps s count size all →
+      None ≡ list_extent all
+  counting_empty s t count size all e none k =
+      let f = road_end steps item_meaning s t k.left k.yields e
+      in extent_none all (size_none all (inl (omega (arith, k.number, ap length f, none))))
+
+  pub counting_all :
+      (s t : S) (count size : ℕ) (all : List PlainItem) →
+      steps s None t →
+      1 ≤ count →
+      count ≤ 8 →
+      Counting steps s count size all →
+      Some (record { count = count; size = size }) ≡ list_extent all
+  counting_all s t count size all e some few k =
+      let f = road_end steps item_meaning s t k.left k.yields e
+      in let n = ap length f
+      in extent_some all count size (omega (arith, k.number, n))
+      (sizing_all size k.left all f (omega (arith, k.number, n, some)) (omega (arith, k.number, n, few)) k.sizing)

@@ -1,4 +1,5 @@
 pub mod Meaning
+pub mod Kinds
 pub mod Cursor
 pub mod Extents
 pub mod ItemSets

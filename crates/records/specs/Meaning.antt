@@ -1,5 +1,5 @@
 -- What the values of the code stand for.
-use Rattle.std.specs.Prelude.{ℕ, List, [], Some, None, Option}
+use Rattle.std.specs.Prelude.{ℕ, List, Some, None, Option}
 use Rattle.std.specs.Borrow.{Bor}
 use Rattle.model.specs.Items.{Item as PlainItem, compare, read, write}
 use Rattle.records.specs.declared.item.Item.{Item}
@@ -14,7 +14,3 @@ item_meaning (Write n a d) = write n a d.now
 abbrev pub split_meaning : Option (Item × Bor (List ℕ)) → Option (PlainItem × List ℕ)
 split_meaning None = None
 split_meaning (Some (i, rest)) = Some (item_meaning i, rest.now)
-
--- the value that stands for an element past the end of a slice
-abbrev pub no_item : Item
-no_item = Compare 0 0 (record { ref_ptr = (0, 0); now = [] })

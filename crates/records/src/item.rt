@@ -1,14 +1,51 @@
 //! One item of a minitransaction, and how it is split off the bytes of a record.
 
 ghost use Rattle.std.specs.Prelude.{◌≡◌};
+ghost use Rattle.std.specs.Option.{ok_or};
 ghost use Rattle.model.specs.ItemFormat.{decode_item, span};
 ghost use Rattle.model.specs.Ranges.{node_of, address_of, is_write};
+ghost use Rattle.model.specs.declared.refusal.Refusal.TheVariants.{Malformed};
+ghost use Rattle.records.specs.Kinds.{kind_number, kind_numbered, kind_of, data_of};
 ghost use Rattle.records.specs.Meaning.{item_meaning, split_meaning};
 
 use model::numbers::LONGEST_ITEM;
+use model::refusal::Refusal;
 
 /// The bytes of an item before its data: kind, node, address and length.
 pub(crate) const FIELDS: usize = 5;
+
+/// What is done with the bytes at an address.
+#[derive(Clone, Copy, PartialEq, Eq, Debug)]
+pub(crate) enum ItemKind {
+    Compare = 1,
+    Read = 2,
+    Write = 3,
+}
+
+/// The first byte of an item in a record.
+impl From<ItemKind> for u8 {
+    ghost from_gives = { λ kind byte. byte ≡ kind_number kind };
+
+    fn from(kind: ItemKind) -> u8 {
+        kind as u8
+    }
+}
+
+/// The kind that the first byte of an item stands for; a byte that stands for none is malformed.
+impl TryFrom<u8> for ItemKind {
+    type Error = Refusal;
+
+    ghost try_from_gives = { λ byte kind. kind ≡ ok_or (kind_numbered byte) Malformed };
+
+    fn try_from(byte: u8) -> Result<ItemKind, Refusal> {
+        match byte {
+            1 => Ok(ItemKind::Compare),
+            2 => Ok(ItemKind::Read),
+            3 => Ok(ItemKind::Write),
+            _ => Err(Refusal::Malformed),
+        }
+    }
+}
 
 /// What a minitransaction asks of one memory node. The data are the very bytes of the record.
 #[derive(Clone, Copy)]
@@ -39,9 +76,8 @@ impl<'a> Item<'a> {
         ensures { result ≡ node_of (item_meaning self.now) }
     {
         match self {
-            Item::Compare { node, .. } => *node,
-            Item::Read { node, .. } => *node,
-            Item::Write { node, .. } => *node,
+            Item::Compare { node, .. } | Item::Read { node, .. } | Item::Write { node, .. } =>
+                *node,
         }
     }
 
@@ -50,9 +86,9 @@ impl<'a> Item<'a> {
         ensures { result ≡ address_of (item_meaning self.now) }
     {
         match self {
-            Item::Compare { address, .. } => *address,
-            Item::Read { address, .. } => *address,
-            Item::Write { address, .. } => *address,
+            Item::Compare { address, .. }
+            | Item::Read { address, .. }
+            | Item::Write { address, .. } => *address,
         }
     }
 
@@ -61,9 +97,8 @@ impl<'a> Item<'a> {
         ensures { result ≡ span (item_meaning self.now) }
     {
         match self {
-            Item::Compare { data, .. } => data.len(),
+            Item::Compare { data, .. } | Item::Write { data, .. } => data.len(),
             Item::Read { length, .. } => *length as usize,
-            Item::Write { data, .. } => data.len(),
         }
     }
 
@@ -71,9 +106,27 @@ impl<'a> Item<'a> {
     pub fn is_write(&self) -> bool
         ensures { result ≡ is_write (item_meaning self.now) }
     {
+        matches!(self, Item::Write { .. })
+    }
+
+    /// What it does with its bytes.
+    pub(crate) fn kind(&self) -> ItemKind
+        ensures { result ≡ kind_of (item_meaning self.now) }
+    {
         match self {
-            Item::Write { .. } => true,
-            _ => false,
+            Item::Compare { .. } => ItemKind::Compare,
+            Item::Read { .. } => ItemKind::Read,
+            Item::Write { .. } => ItemKind::Write,
+        }
+    }
+
+    /// The bytes that a record has behind its fields: none for a read.
+    pub(crate) fn data(&self) -> &'a [u8]
+        ensures { result.now ≡ data_of (item_meaning self.now) }
+    {
+        match self {
+            Item::Compare { data, .. } | Item::Write { data, .. } => data,
+            Item::Read { .. } => &[],
         }
     }
 }
@@ -82,48 +135,34 @@ impl<'a> Item<'a> {
 pub fn split_item<'a>(bytes: &'a [u8]) -> Option<(Item<'a>, &'a [u8])>
     ensures { split_meaning result ≡ decode_item bytes.now }
 {
-    if bytes.len() < FIELDS {
+    let (&[kind, node, high, low, length], rest) = bytes.split_first_chunk::<FIELDS>()?;
+    let address = u16::from_be_bytes([high, low]);
+    if !(1..=LONGEST_ITEM).contains(&length) {
         return None;
     }
-    let kind = bytes[0];
-    let node = bytes[1];
-    let address = u16::from_be_bytes([bytes[2], bytes[3]]);
-    let length = bytes[4];
-    let (_, rest) = bytes.split_at(FIELDS);
-    if length < 1 || length > LONGEST_ITEM {
-        return None;
-    }
-    if kind == 2 {
-        return Some((
-            Item::Read {
-                node,
-                address,
-                length,
-            },
-            rest,
-        ));
-    }
-    if rest.len() < length as usize {
-        return None;
-    }
-    let (data, after) = rest.split_at(length as usize);
-    match kind {
-        1 => Some((
-            Item::Compare {
-                node,
-                address,
-                data,
-            },
-            after,
-        )),
-        3 => Some((
-            Item::Write {
-                node,
-                address,
-                data,
-            },
-            after,
-        )),
-        _ => None,
-    }
+    let kind = ItemKind::try_from(kind).ok()?;
+    let held = if kind == ItemKind::Read {
+        0
+    } else {
+        length as usize
+    };
+    let (data, after) = rest.split_at_checked(held)?;
+    let item = match kind {
+        ItemKind::Compare => Item::Compare {
+            node,
+            address,
+            data,
+        },
+        ItemKind::Read => Item::Read {
+            node,
+            address,
+            length,
+        },
+        ItemKind::Write => Item::Write {
+            node,
+            address,
+            data,
+        },
+    };
+    Some((item, after))
 }

@@ -39,6 +39,7 @@ impl Selection {
     }
 }
 
+// A count beside bytes of fixed size: nothing here may allocate, and the set is copied.
 /// Up to eight items. It is copied freely, and takes the same room whatever it holds.
 #[derive(Clone, Copy)]
 pub struct ItemSet {
@@ -53,6 +54,7 @@ impl ItemSet {
     pub fn of(items: Items<'_>, selection: Selection) -> ItemSet
         ensures { set_items result ≡ take most_items (only (selected selection) (items_meaning items.entry)) }
     {
+        // The count is a field of the answer, and `end` moves by the size of each item: no index is counted.
         let mut count = 0;
         let mut end = 0;
         let mut bytes = [0; ITEM_SET_BYTES];
@@ -61,7 +63,7 @@ impl ItemSet {
                 continue;
             }
             if count == MOST_ITEMS {
-                return ItemSet { count, bytes };
+                break;
             }
             let Some(next) = put_one(&mut bytes, end, &item) else {
                 continue;

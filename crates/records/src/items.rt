@@ -5,7 +5,7 @@ ghost use Rattle.std.specs.Option.{ok_or};
 ghost use Rattle.model.specs.ItemFormat.{decode_items, decode_list, take_items};
 ghost use Rattle.records.specs.Cursor.{items_meaning, ItemStep, list_meaning};
 ghost use Rattle.model.specs.declared.refusal.Refusal.TheVariants.{Malformed};
-ghost use Rattle.std.specs.Iterator.{at_most};
+ghost use Rattle.std.specs.Iterator.{item_count};
 
 use crate::item::{Item, split_item};
 use model::numbers::MOST_ITEMS;
@@ -23,17 +23,10 @@ impl<'a> Items<'a> {
     pub fn parse(bytes: &'a [u8]) -> Result<Items<'a>, Refusal>
         ensures { list_meaning result ≡ ok_or (decode_list bytes.now) Malformed }
     {
-        if bytes.len() < 1 {
-            return Err(Refusal::Malformed);
-        }
-        let count = bytes[0];
-        let (_, rest) = bytes.split_at(1);
-        if count < 1 || count > MOST_ITEMS {
-            return Err(Refusal::Malformed);
-        }
-        let left = count as usize;
-        if well_formed(left, rest) {
-            Ok(Items { left, bytes: rest })
+        let (count, bytes) = bytes.split_first().ok_or(Refusal::Malformed)?;
+        let left = *count as usize;
+        if (1..=MOST_ITEMS).contains(count) && well_formed(left, bytes) {
+            Ok(Items { left, bytes })
         } else {
             Err(Refusal::Malformed)
         }
@@ -50,11 +43,7 @@ impl<'a> Items<'a> {
     pub fn len(self) -> usize
         ensures { result ≡ length (items_meaning self.entry) }
     {
-        let mut count = 0;
-        for _item in self {
-            count += 1;
-        }
-        count
+        self.count()
     }
 
     /// Takes the next item off, where there is one.
@@ -64,9 +53,7 @@ impl<'a> Items<'a> {
         if self.left == 0 {
             return None;
         }
-        let Some((item, rest)) = split_item(self.bytes) else {
-            return None;
-        };
+        let (item, rest) = split_item(self.bytes)?;
         self.left -= 1;
         self.bytes = rest;
         Some(item)
@@ -77,24 +64,23 @@ impl<'a> Items<'a> {
 fn well_formed(count: usize, bytes: &[u8]) -> bool
     ensures { result ≡ is_some (decode_items count bytes.now) }
 {
-    let mut left = count;
     let mut rest = bytes;
-    while left > 0 {
+    for _item in 0..count {
         let Some((_, after)) = split_item(rest) else {
             return false;
         };
-        left -= 1;
         rest = after;
     }
-    rest.len() == 0
+    rest.is_empty()
 }
 
 impl<'a> Iterator for Items<'a> {
     type Item = Item<'a>;
 
+    // More than `YieldsFirstBy` of the library says: at the end the cursor stays as it is.
     ghost next_gives = { ItemStep };
 
-    ghost remaining = { λ s. at_most (length (items_meaning s)) };
+    ghost remaining = { item_count items_meaning };
 
     fn next(&mut self) -> Option<Item<'a>> {
         self.next_item()

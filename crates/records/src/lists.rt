@@ -1,15 +1,17 @@
-//! Item lists put into a buffer, from a slice of items and from a cursor.
+//! Item lists put into a buffer, from whatever yields the items.
 
-ghost use Rattle.std.specs.Prelude.{◌≡◌, ◌+◌, ◌≤◌, true, map, length, if◌then◌else◌};
+ghost use Rattle.std.specs.Prelude.{◌≡◌, List, if◌then◌else◌};
+ghost use Rattle.std.specs.Iterator.{AlwaysYields, IsFinite};
 ghost use Rattle.model.specs.Bytes.{splice, placed};
-ghost use Rattle.model.specs.ItemFormat.{are_items, encode_items, encode_list, is_list, list_size};
+ghost use Rattle.model.specs.Items.{Item as PlainItem};
+ghost use Rattle.model.specs.ItemFormat.{encode_items, encode_list, is_list, list_size};
 ghost use Rattle.records.specs.Meaning.{item_meaning};
 ghost use Rattle.records.specs.Cursor.{items_meaning};
-ghost use Rattle.records.specs.Extents.{list_extent};
+ghost use Rattle.records.specs.Extents.{list_extent, ItemsFit};
 
 use crate::item::Item;
 use crate::items::Items;
-use crate::writer::{item_size, put, put_item};
+use crate::writer::{fits, item_size, put, put_item};
 use model::numbers::MOST_ITEMS;
 
 /// How much an item list takes in a record.
@@ -25,10 +27,7 @@ pub(crate) struct Extent {
 pub fn list_size(items: Items<'_>) -> Option<usize>
     ensures { result ≡ list_size (items_meaning items.entry) }
 {
-    match cursor_extent(items) {
-        Some(extent) => Some(extent.size),
-        None => None,
-    }
+    list_extent(items).map(|extent| extent.size)
 }
 
 /// Puts the items to come as a list, the count first, into a buffer from a place on;
@@ -36,60 +35,30 @@ pub fn list_size(items: Items<'_>) -> Option<usize>
 pub fn put_list(buffer: &mut [u8], at: usize, items: Items<'_>)
     ensures { buffer.new ≡ (if is_list (items_meaning items.entry) then placed buffer.old at (encode_list (items_meaning items.entry)) else buffer.old) }
 {
-    let Some(extent) = cursor_extent(items) else {
+    let Some(extent) = list_extent(items) else {
         return;
     };
-    if buffer.len() < extent.size || buffer.len() - extent.size < at {
-        return;
-    }
-    put(buffer, at, &[extent.count]);
-    put_cursor(buffer, at + 1, items);
-}
-
-/// How many bytes an item list takes in a record; none where no record holds it.
-pub(crate) fn slice_size(items: &[Item<'_>]) -> Option<usize>
-    ensures { result ≡ list_size (map item_meaning items.now) }
-{
-    if items.len() < 1 || items.len() > MOST_ITEMS as usize {
-        return None;
-    }
-    let mut size = 1;
-    for item in items {
-        let Some(more) = item_size(item) else {
-            return None;
-        };
-        size += more;
-    }
-    Some(size)
-}
-
-/// Puts the items of a slice one behind the other.
-pub(crate) fn put_slice(buffer: &mut [u8], at: usize, items: &[Item<'_>])
-    requires value { are_items (map item_meaning items.now) ≡ true }
-    requires in_bounds { at + length (encode_items (map item_meaning items.now)) ≤ length buffer.old }
-    ensures { buffer.new ≡ splice buffer.old at (encode_items (map item_meaning items.now)) }
-{
-    let mut end = at;
-    for item in items {
-        end = put_item(buffer, end, item);
+    if fits(buffer, at, extent.size) {
+        put(buffer, at, &[extent.count]);
+        put_items(buffer, at + 1, items);
     }
 }
 
-/// How much the items to come take as a list in a record; none where no record holds them.
-pub(crate) fn cursor_extent(items: Items<'_>) -> Option<Extent>
-    ensures { result ≡ list_extent (items_meaning items.entry) }
+/// How much items take as a list in a record; none where no record holds them.
+pub(crate) fn list_extent<'a, I: Iterator<Item = Item<'a>>>(items: I) -> Option<Extent>
+    requires can { I.can_next items }
+    requires ends { IsFinite (I.remaining items) }
+    ensures { (is : List PlainItem) → AlwaysYields I.next_gives item_meaning items is → result ≡ list_extent is }
 {
+    // The count is half of the answer: a fold over both would have to name them as a pair.
     let mut count = 0;
     let mut size = 1;
     for item in items {
         if count == MOST_ITEMS {
             return None;
         }
-        let Some(more) = item_size(&item) else {
-            return None;
-        };
+        size += item_size(&item)?;
         count += 1;
-        size += more;
     }
     if count == 0 {
         None
@@ -98,11 +67,12 @@ pub(crate) fn cursor_extent(items: Items<'_>) -> Option<Extent>
     }
 }
 
-/// Puts the items to come one behind the other.
-pub(crate) fn put_cursor(buffer: &mut [u8], at: usize, items: Items<'_>)
-    requires value { are_items (items_meaning items) ≡ true }
-    requires in_bounds { at + length (encode_items (items_meaning items)) ≤ length buffer.old }
-    ensures { buffer.new ≡ splice buffer.old at (encode_items (items_meaning items.entry)) }
+/// Puts items one behind the other.
+pub(crate) fn put_items<'a, I: Iterator<Item = Item<'a>>>(buffer: &mut [u8], at: usize, items: I)
+    requires can { I.can_next items }
+    requires ends { IsFinite (I.remaining items) }
+    requires in_bounds { ItemsFit I.next_gives items at buffer.old }
+    ensures { (is : List PlainItem) → AlwaysYields I.next_gives item_meaning items is → buffer.new ≡ splice buffer.old at (encode_items is) }
 {
     let mut end = at;
     for item in items {

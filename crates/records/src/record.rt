@@ -15,11 +15,10 @@ pub const CONTENT: usize = 3;
 pub fn is_record(bytes: &[u8]) -> bool
     ensures { result ≡ is_record bytes.now }
 {
-    if bytes.len() < CONTENT {
-        return false;
+    match bytes {
+        [high, low, VERSION, ..] => u16::from_be_bytes([*high, *low]) as usize + 2 == bytes.len(),
+        _ => false,
     }
-    let counted = u16::from_be_bytes([bytes[0], bytes[1]]) as usize;
-    counted + 2 == bytes.len() && bytes[2] == VERSION
 }
 
 /// The bytes before a record's content, whose length counts the version and the content.

@@ -11,7 +11,7 @@ ghost use Rattle.records.specs.Cursor.{items_meaning, list_meaning};
 
 use crate::item::Item;
 use crate::items::Items;
-use crate::lists::{put_slice, slice_size};
+use crate::lists::{list_extent, put_items};
 use crate::record::{CONTENT, is_record, record_head};
 use crate::writer::put;
 use model::refusal::Refusal;
@@ -24,8 +24,7 @@ pub fn read_request<'a>(bytes: &'a [u8]) -> Result<Items<'a>, Refusal>
     if !is_record(bytes) {
         return Err(Refusal::Malformed);
     }
-    let (_, content) = bytes.split_at(CONTENT);
-    Items::parse(content)
+    Items::parse(&bytes[CONTENT..])
 }
 
 /// Writes a request at the start of a buffer, and gives its length; a refusal leaves every byte.
@@ -34,14 +33,12 @@ pub fn write_request(buffer: &mut [u8], items: &[Item<'_>]) -> Result<usize, Ref
     ensures value { (result, buffer.new) ≡ written (is_list (map item_meaning items.now)) (encode_request (map item_meaning items.now)) buffer.old }
     ensures back { IfOk result (λ n. decode_request (take n buffer.new) ≡ Some (map item_meaning items.now)) }
 {
-    let Some(size) = slice_size(items) else {
-        return Err(Refusal::Malformed);
-    };
-    if buffer.len() < CONTENT + size {
+    let extent = list_extent(items.iter().copied()).ok_or(Refusal::Malformed)?;
+    if buffer.len() < CONTENT + extent.size {
         return Err(Refusal::NoRoom);
     }
-    put(buffer, 0, &record_head((1 + size) as u16));
-    put(buffer, CONTENT, &[items.len() as u8]);
-    put_slice(buffer, CONTENT + 1, items);
-    Ok(CONTENT + size)
+    put(buffer, 0, &record_head((1 + extent.size) as u16));
+    put(buffer, CONTENT, &[extent.count]);
+    put_items(buffer, CONTENT + 1, items.iter().copied());
+    Ok(CONTENT + extent.size)
 }

@@ -1,6 +1,6 @@
 //! Items put into a buffer.
 
-ghost use Rattle.std.specs.Prelude.{◌≡◌, ◌+◌, ◌/◌, ◌%◌, ◌≤◌, true, [], ◌∷◌, map, length, is_some, if◌then◌else◌, Some, None};
+ghost use Rattle.std.specs.Prelude.{◌≡◌, ◌+◌, ◌≤◌, true, length, is_some, if◌then◌else◌, Some, None, nat_le};
 ghost use Rattle.model.specs.Bytes.{splice, placed};
 ghost use Rattle.model.specs.ItemFormat.{be16, encode_item, is_item};
 ghost use Rattle.records.specs.Meaning.{item_meaning};
@@ -9,15 +9,22 @@ ghost use Rattle.records.specs.Extents.{has_room};
 use crate::item::{FIELDS, Item};
 use model::numbers::LONGEST_ITEM;
 
+// A buffer and a place go side by side: `put`, `put_one` and `put_list` promise that to callers, who begin anew at each part of a record, so a writer around both would be made at each call.
+
 /// Puts bytes into a buffer from a place on; where they do not fit, the buffer stays as it is.
 pub fn put(buffer: &mut [u8], at: usize, bytes: &[u8])
     ensures { buffer.new ≡ placed buffer.old at bytes.now }
 {
-    if buffer.len() < bytes.len() || buffer.len() - bytes.len() < at {
-        return;
+    if fits(buffer, at, bytes.len()) {
+        buffer[at..at + bytes.len()].copy_from_slice(bytes);
     }
-    let end = at + bytes.len();
-    buffer[at..end].copy_from_slice(bytes);
+}
+
+/// Whether so many bytes fit into a buffer from a place on.
+pub(crate) fn fits(buffer: &[u8], at: usize, size: usize) -> bool
+    ensures { result ≡ nat_le (at + size) (length buffer.now) }
+{
+    at <= buffer.len() && size <= buffer.len() - at
 }
 
 /// The two bytes of a number, the higher first.
@@ -33,10 +40,8 @@ pub fn put_one(buffer: &mut [u8], at: usize, item: &Item<'_>) -> Option<usize>
     ensures end { result ≡ (if has_room buffer.old at (item_meaning item.now) then Some (at + length (encode_item (item_meaning item.now))) else None) }
     ensures bytes { buffer.new ≡ (if is_some result then splice buffer.old at (encode_item (item_meaning item.now)) else buffer.old) }
 {
-    let Some(size) = item_size(item) else {
-        return None;
-    };
-    if buffer.len() < size || buffer.len() - size < at {
+    let size = item_size(item)?;
+    if !fits(buffer, at, size) {
         return None;
     }
     Some(put_item(buffer, at, item))
@@ -46,23 +51,11 @@ pub fn put_one(buffer: &mut [u8], at: usize, item: &Item<'_>) -> Option<usize>
 pub(crate) fn item_size(item: &Item<'_>) -> Option<usize>
     ensures { result ≡ (if is_item (item_meaning item.now) then Some (length (encode_item (item_meaning item.now))) else None) }
 {
-    let (length, held) = match item {
-        Item::Compare { data, .. } => (data.len(), data.len()),
-        Item::Read { length, .. } => (*length as usize, 0),
-        Item::Write { data, .. } => (data.len(), data.len()),
-    };
-    if length < 1 || length > LONGEST_ITEM as usize {
-        return None;
+    if (1..=LONGEST_ITEM as usize).contains(&item.span()) {
+        Some(FIELDS + item.data().len())
+    } else {
+        None
     }
-    Some(FIELDS + held)
-}
-
-/// The bytes of an item before its data.
-fn fields(kind: u8, node: u8, address: u16, length: u8) -> [u8; FIELDS]
-    ensures { result ≡ kind ∷ node ∷ (address / 256) ∷ (address % 256) ∷ length ∷ [] }
-{
-    let [high, low] = be_bytes(address);
-    [kind, node, high, low, length]
 }
 
 /// Puts an item, and gives the place behind it.
@@ -72,36 +65,15 @@ pub(crate) fn put_item(buffer: &mut [u8], at: usize, item: &Item<'_>) -> usize
     ensures end { result ≡ at + length (encode_item (item_meaning item.now)) }
     ensures bytes { buffer.new ≡ splice buffer.old at (encode_item (item_meaning item.now)) }
 {
-    match item {
-        Item::Compare {
-            node,
-            address,
-            data,
-        } => put_data(buffer, at, 1, *node, *address, data),
-        Item::Read {
-            node,
-            address,
-            length,
-        } => {
-            put(buffer, at, &fields(2, *node, *address, *length));
-            at + FIELDS
-        }
-        Item::Write {
-            node,
-            address,
-            data,
-        } => put_data(buffer, at, 3, *node, *address, data),
-    }
-}
-
-/// Puts the fields of an item and its data, and gives the place behind them.
-fn put_data(buffer: &mut [u8], at: usize, kind: u8, node: u8, address: u16, data: &[u8]) -> usize
-    requires data_len_bound { length «data».now ≤ 16 }
-    requires data_in_bounds { at + (5 + length «data».now) ≤ length buffer.old }
-    ensures end { result ≡ at + (5 + length «data».now) }
-    ensures bytes { buffer.new ≡ splice buffer.old at (kind ∷ node ∷ (address / 256) ∷ (address % 256) ∷ length «data».now ∷ «data».now) }
-{
-    put(buffer, at, &fields(kind, node, address, data.len() as u8));
-    put(buffer, at + FIELDS, data);
-    at + FIELDS + data.len()
+    let [high, low] = be_bytes(item.address());
+    let fields: [u8; FIELDS] = [
+        u8::from(item.kind()),
+        item.node(),
+        high,
+        low,
+        item.span() as u8,
+    ];
+    put(buffer, at, &fields);
+    put(buffer, at + FIELDS, item.data());
+    at + FIELDS + item.data().len()
 }

@@ -7,5 +7,5 @@ use Rattle.messages.proofs.writer.body_size.Goals as goal
 pub overflow_add-result : goal.overflow_add-result
 overflow_add-result c =
     let is = items_meaning c.in-Prepare.items
-    in let s = list_sized is _ c.in-Some.ensures
+    in let s = list_sized is _ c.in_ok-size-in-Prepare.ensures
     in omega (arith, list_bound is s.0, s.1)

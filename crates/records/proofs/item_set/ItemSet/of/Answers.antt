@@ -52,6 +52,6 @@ loop-item-preserved c = (
       c.loop-item.invariant.2,
 )
 
-pub returns : goal.returns
-returns c =
+pub returns-in-None : goal.returns-in-None
+returns-in-None c =
     keeping_all (selected c.args.selection) _ _ c.loop-item.count c.loop-item.end c.loop-item.bytes c.in-None.ensures.steps.0 c.loop-item.invariant.2

@@ -1,11 +1,12 @@
--- Each turn counts the next item.
-use Rattle.std.proofs.Common.{length, ap, arith}
+-- There are no more items than the cursor says.
+use Rattle.std.proofs.Common.{inl, arith}
+use Rattle.std.proofs.lemmas.Iterator.Consumers.{count_from_yields_List}
 use Rattle.model.proofs.ItemSteps.{take_bound}
+use Rattle.records.proofs.Roads.{cursor_road}
 use Rattle.records.proofs.items.Items.len.Goals as goal
 
-pub overflow_add-count : goal.overflow_add-count
-overflow_add-count c =
-    omega (arith, take_bound c.args.self.left c.args.self.bytes.now, ap length c.in-Some.ensures.steps)
+pub count-requires-clause-fits : goal.count-requires-clause-fits
+count-requires-clause-fits c = inl (omega (arith, take_bound c.args.self.left c.args.self.bytes.now))
 
 pub returns : goal.returns
-returns c = omega (arith, ap length c.in-None.ensures.steps.0)
+returns c = count_from_yields_List c.args.self c.count.result c.count.ensures.ran (cursor_road c.args.self)
