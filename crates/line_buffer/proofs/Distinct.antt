@@ -29,6 +29,11 @@ get_or_member [] i h = absurd (omega arith)
 get_or_member (m ∷ ms) zero h = or_left _ _ (eq-eqb m m refl)
 get_or_member (m ∷ ms) (suc i) h = or_right (eqb (get_or ms i 0) m) _ (get_or_member ms i (omega arith))
 
+pub none_member : (ms : List ℕ) (n : ℕ) → ((k : ℕ) → k < length ms → get_or ms k 0 ≡ n → ⊥) → member n ms ≡ false
+unfolding member
+none_member [] n o = refl
+none_member (m ∷ ms) n o = or_from _ _ (ne_eqb n m (λ e. o 0 (omega arith) (sym e))) (none_member ms n (λ k l. o (suc k) (omega arith)))
+
 pub apart_push : (ms : List ℕ) (m : ℕ) → apart ms ≡ true → member m ms ≡ false → apart (ms ++ m ∷ []) ≡ true
 unfolding member apart
 apart_push [] m a o = refl

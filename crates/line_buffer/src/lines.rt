@@ -1,136 +1,132 @@
-//! What is done with held lines, without the memory below.
+//! The held lines, without the memory below, and a piece of a write that goes into one of them.
 
-ghost use Rattle.std.specs.Prelude.{◌≡◌, ℕ, ◌+◌, ◌-◌, ◌/◌, ◌%◌, ◌<◌, ◌≤◌, Bool, true, false, ◌&&◌, ◌⊎◌, List, [], ◌∷◌, ◌++◌, map, length, replicate, IfSome, IfOk, if◌then◌else◌, Some, None, vec_len, vec_capacity, MatchOption, nat_eq, slice_index};
-ghost use Rattle.std.specs.Option.{unwrap_or};
-ghost use Rattle.model.specs.Memory.{splice, named};
+ghost use Rattle.std.specs.Prelude.{◌≡◌, ℕ, ◌+◌, ◌%◌, ◌<◌, ◌≤◌, true, false, ◌⊎◌, [], ◌∷◌, ◌++◌, length, IfSome, IfOk, if◌then◌else◌, MatchOption, vec_len, vec_capacity, slice_index, get_or};
+ghost use Rattle.std.specs.List.{remove};
 ghost use Rattle.model.specs.Numbers.{most_bytes};
-ghost use Rattle.line_buffer.specs.Lines.{line_bytes, most_lines, numbers, member, apart, cell_at, held_at, laid, written, takes};
+ghost use Rattle.line_buffer.specs.Lines.{line_bytes, most_lines, numbers, member, apart, held_at, laid, overlaid, takes};
 
 use crate::line::{LINE_BYTES, Line, MOST_LINES};
+use memory::Memory;
 use std::alloc::{AllocError, Global};
 
-impl Line {
-    /// A line of which nothing is written yet.
-    pub(crate) fn blank(number: u8) -> Line
-        ensures number { result.number ≡ number }
-        ensures cells { result.cells ≡ replicate 16 None }
+/// Bytes to be written from an address on that lie within one line.
+#[derive(Clone, Copy)]
+pub(crate) struct Piece<'a> {
+    pub(crate) at: usize,
+    pub(crate) bytes: &'a [u8],
+    ghost address: { at < most_bytes },
+    ghost inside: { at % line_bytes + length bytes.now ≤ line_bytes },
+}
+
+impl Piece<'_> {
+    ghost use Rattle.line_buffer.specs.Held.{line_of};
+
+    /// The number of its line.
+    pub(crate) fn number(self) -> u8
+        ensures { result ≡ line_of self.entry }
     {
-        Line {
-            number,
-            cells: [None; LINE_BYTES],
-        }
+        (self.at / LINE_BYTES) as u8
     }
 
-    /// The line with bytes written from the place `offset` on.
-    pub(crate) fn with(mut self, offset: usize, from: &[u8]) -> Line
-        requires { offset + length from.now ≤ line_bytes }
-        ensures number { result.number ≡ self.number }
-        ensures cells { result.cells ≡ splice self.cells offset (map Some from.now) }
-        ensures width { length self.cells ≡ line_bytes }
+    /// Where in its line it begins.
+    pub(crate) fn offset(self) -> usize
+        ensures { result ≡ self.entry.at % line_bytes }
     {
-        for (i, b) in from.iter().enumerate() {
-            self.cells[offset + i] = Some(*b);
-        }
-        self
+        self.at % LINE_BYTES
     }
+}
 
-    /// Lays the written bytes of the line over those that were read from the address `at` on.
-    pub(crate) fn lay(self, at: usize, out: &mut [u8])
-        ensures { out.new ≡ laid at (cell_at self) out.old }
+/// Up to eight lines, of which no two have the same number.
+#[derive(Drop)]
+pub(crate) struct HeldLines {
+    // Oldest first.
+    pub(crate) lines: Vec<Line>,
+    ghost few: { vec_len lines ≤ most_lines },
+    ghost reserved: { most_lines ≤ vec_capacity lines },
+    ghost distinct: { apart (numbers lines.items) ≡ true },
+}
+
+impl HeldLines {
+    ghost use Rattle.line_buffer.specs.Held.{line_of, held_with};
+
+    /// No line yet, with room for all of them.
+    pub(crate) fn new(heap: Global) -> Result<HeldLines, AllocError>
+        ensures { IfOk result (λ h. h.lines.items ≡ []) }
     {
-        for c in 0..LINE_BYTES {
-            lay_cell(
-                self.cells[c],
-                self.number as usize * LINE_BYTES + c,
-                at,
-                out,
-            );
+        Ok(HeldLines {
+            lines: Vec::with_capacity(heap, MOST_LINES)?,
+        })
+    }
+
+    /// Lays all held bytes over those that were read from the address `at` on.
+    pub(crate) fn overlay(&self, at: usize, out: &mut [u8])
+        ensures { out.new ≡ laid at (held_at self.now.lines.items) out.old }
+    {
+        for line in &self.lines {
+            line.lay(at, out);
         }
     }
-}
 
-/// Lays the byte of one address, if it was written, over those that were read from the address `at` on.
-fn lay_cell(cell: Option<u8>, address: usize, at: usize, out: &mut [u8])
-    ensures { out.new ≡ laid at (λ k. (if nat_eq k address then cell else None)) out.old }
-{
-    if let Some(b) = cell {
-        if at <= address && address - at < out.len() {
-            out[address - at] = b;
+    /// Writes all held bytes to the memory below.
+    pub(crate) fn write_back<M: Memory>(&self, below: &mut M)
+        ensures { M.bytes below.new ≡ overlaid self.now.lines.items (M.bytes below.old) }
+    {
+        for line in &self.lines {
+            line.write_back(below);
         }
     }
-}
 
-/// Lays all held bytes over those that were read from the address `at` on.
-pub(crate) fn overlay(lines: &[Line], at: usize, out: &mut [u8])
-    requires { apart (numbers lines.now) ≡ true }
-    ensures { out.new ≡ laid at (held_at lines.now) out.old }
-{
-    for line in lines {
-        line.lay(at, out);
+    /// The place of the line with the given number, if it is held.
+    fn find(&self, number: u8) -> Option<usize>
+        ensures { MatchOption result (member number (numbers self.now.lines.items) ≡ false) (λ i. (i < length self.now.lines.items) × (slice_index (numbers self.now.lines.items) i ≡ number)) }
+    {
+        self.lines.iter().position(|line| line.number == number)
     }
-}
 
-/// A table that holds no line yet and has room for `count` of them.
-pub(crate) fn room_for(heap: Global, count: usize) -> Result<Vec<Line>, AllocError>
-    ensures { IfOk result (λ v. (v.items ≡ []) × (vec_len v ≡ 0) × (count ≤ vec_capacity v) × (apart (numbers v.items) ≡ true)) }
-{
-    Vec::with_capacity(heap, count)
-}
+    /// Whether the line with the given number is held, or there is a free place for it.
+    pub(crate) fn has_place(&self, number: u8) -> bool
+        ensures { result ≡ takes (numbers self.now.lines.items) number }
+    {
+        self.find(number).is_some() || self.lines.len() < MOST_LINES
+    }
 
-/// The place of the line with the given number, if it is held.
-pub(crate) fn find(lines: &[Line], number: u8) -> Option<usize>
-    ensures { MatchOption result (member number (numbers lines.now) ≡ false) (λ i. (i < length lines.now) × (slice_index (numbers lines.now) i ≡ number)) }
-{
-    for (i, line) in lines.iter().enumerate() {
-        if line.number == number {
-            return Some(i);
+    /// The place of the oldest line that lies outside the lines from `first` to `last`.
+    pub(crate) fn oldest_outside(&self, first: u8, last: u8) -> Option<usize>
+        ensures { IfSome result (λ i. (i < length self.now.lines.items) × ((slice_index (numbers self.now.lines.items) i < first) ⊎ (last < slice_index (numbers self.now.lines.items) i))) }
+    {
+        self.lines
+            .iter()
+            .position(|line| line.number < first || line.number > last)
+    }
+
+    /// Holds a piece of a write, whose line is given a place if it has none.
+    pub(crate) fn hold(&mut self, piece: Piece<'_>)
+        requires { takes (numbers self.old.lines.items) (line_of piece) ≡ true }
+        ensures held { (k : ℕ) → held_at self.new.lines.items k ≡ held_with self.old piece.entry k }
+        ensures numbers { numbers self.new.lines.items ≡ (if member (line_of piece.entry) (numbers self.old.lines.items) then numbers self.old.lines.items else numbers self.old.lines.items ++ line_of piece.entry ∷ []) }
+    {
+        let number = piece.number();
+        match self.find(number) {
+            Some(i) => self.lines[i] = self.lines[i].with(piece.offset(), piece.bytes),
+            None => self
+                .lines
+                .push_reserved(Line::blank(number).with(piece.offset(), piece.bytes)),
         }
     }
-    None
-}
 
-/// Whether the line with the given number is held, or there is a free place for it.
-pub(crate) fn has_place(lines: &[Line], number: u8) -> bool
-    ensures { result ≡ takes (numbers lines.now) number }
-{
-    match find(lines, number) {
-        Some(_) => true,
-        None => lines.len() < MOST_LINES,
+    /// Takes one line out.
+    pub(crate) fn take(&mut self, i: usize) -> Line
+        requires { i < vec_len self.old.lines }
+        ensures line { result ≡ get_or self.old.lines.items i result }
+        ensures lines { self.new.lines.items ≡ remove self.old.lines.items i }
+    {
+        self.lines.remove(i)
     }
-}
 
-/// The oldest line that lies outside the lines from `first` to `last`.
-pub(crate) fn oldest_outside(lines: &[Line], first: u8, last: u8) -> Option<usize>
-    ensures { IfSome result (λ i. (i < length lines.now) × ((slice_index (numbers lines.now) i < first) ⊎ (last < slice_index (numbers lines.now) i))) }
-{
-    for (i, line) in lines.iter().enumerate() {
-        if line.number < first || line.number > last {
-            return Some(i);
-        }
-    }
-    None
-}
-
-/// Writes bytes that lie within one line, which is given a place if it has none.
-pub(crate) fn hold(lines: &mut Vec<Line>, at: usize, from: &[u8])
-    requires address { at < most_bytes }
-    requires inside { at % line_bytes + length from.now ≤ line_bytes }
-    requires distinct { apart (numbers lines.old.items) ≡ true }
-    requires room { takes (numbers lines.old.items) (at / line_bytes) ≡ true }
-    requires few { vec_len lines.old ≤ most_lines }
-    requires reserved { most_lines ≤ vec_capacity lines.old }
-    ensures held { (k : ℕ) → held_at lines.new.items k ≡ written (held_at lines.old.items) at from.now k }
-    ensures numbers { numbers lines.new.items ≡ (if member (at / line_bytes) (numbers lines.old.items) then numbers lines.old.items else numbers lines.old.items ++ at / line_bytes ∷ []) }
-    ensures distinct { apart (numbers lines.new.items) ≡ true }
-    ensures few { vec_len lines.new ≤ most_lines }
-    ensures capacity { vec_capacity lines.new ≡ vec_capacity lines.old }
-{
-    let number = (at / LINE_BYTES) as u8;
-    match find(lines.as_slice(), number) {
-        Some(i) => {
-            let line = lines[i].with(at % LINE_BYTES, from);
-            lines[i] = line;
-        }
-        None => lines.push_reserved(Line::blank(number).with(at % LINE_BYTES, from)),
+    /// Holds nothing any more.
+    pub(crate) fn clear(&mut self)
+        ensures { self.new.lines.items ≡ [] }
+    {
+        self.lines.clear();
     }
 }

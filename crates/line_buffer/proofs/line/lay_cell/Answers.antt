@@ -1,8 +1,8 @@
 use Rattle.std.proofs.Common.{◌-◌, ◌<◌, ◌≤◌, cond, eqb, length, None, sym, ap, ◌∙◌, arith}
 use Rattle.line_buffer.specs.Lines.{laid}
 use Rattle.line_buffer.proofs.Laid.{laid_one, laid_one_outside, laid_one_none}
-use Rattle.line_buffer.proofs.table.lay_cell.Goals as goal
-use Rattle.line_buffer.proofs.table.lay_cell.Goals.{else-at-address-via-then-at-address+else-address-at, else-at-address-via-else-at-address}
+use Rattle.line_buffer.proofs.line.lay_cell.Goals as goal
+use Rattle.line_buffer.proofs.line.lay_cell.Goals.{else-at-address-via-then-at-address+else-address-at, else-at-address-via-else-at-address}
 
 pub returns-then-address-at : goal.returns-then-address-at
 returns-then-address-at c =
