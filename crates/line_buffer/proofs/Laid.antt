@@ -1,9 +1,18 @@
 -- Laws of `laid`: the length, each byte, nothing laid over, and one laid over another.
-use Rattle.std.proofs.Common.{◌≡◌, ℕ, zero, suc, ◌+◌, ◌-◌, ◌*◌, ◌/◌, ◌%◌, ◌<◌, ◌≤◌, true, false, cond, eqb, List, [], ◌∷◌, length, get_or, set, Some, None, Option, unwrap_or, sym, refl, ap, ◌∙◌, ⊎_elim, arith}
+use Rattle.std.proofs.Common.{◌≡◌, ℕ, zero, suc, ◌+◌, ◌-◌, ◌*◌, ◌/◌, ◌%◌, ◌<◌, ◌≤◌, Bool, true, false, cond, eqb, List, [], ◌∷◌, length, get_or, set, is_some, Some, None, Option, unwrap_or, sym, refl, ap, ◌∙◌, ⊎_elim, arith}
 use Rattle.std.proofs.lemmas.List.{ext_get_or, length-set, get_or-set_same, get_or-set_other}
 use Rattle.std.proofs.lemmas.Bool.{cases_eq, cases_lt, cond-true, cond-false, eq-eqb, ne_eqb, lt-ltb, le-ltb}
 use Rattle.line_buffer.specs.declared.line.Line.{Line}
 use Rattle.line_buffer.specs.Lines.{line_bytes, cell_at, cells_below, laid}
+
+-- nothing is held, whichever way a test goes
+pub cond_none : (b : Bool) → cond {A = Option ℕ} b None None ≡ None
+cond_none true = refl
+cond_none false = refl
+
+pub none_of : (v : Option ℕ) → is_some v ≡ false → v ≡ None
+none_of None e = refl
+none_of (Some x) e = cc
 
 pub length_laid : (a : ℕ) (h : ℕ → Option ℕ) (xs : List ℕ) → length (laid a h xs) ≡ length xs
 unfolding laid
@@ -64,7 +73,7 @@ laid_one_outside a p v xs o =
     sym (ap (λ w. unwrap_or w (get_or xs k 0)) (cond-false _ _ _ (ne_eqb _ _ z))))
 
 pub laid_one_none : (a p : ℕ) (xs : List ℕ) → xs ≡ laid a (λ k. cond (eqb k p) None None) xs
-laid_one_none a p xs = laid_nothing a _ xs (λ k. elim (eqb k p) as (λ b. cond {A = Option ℕ} b None None ≡ None) [ true ↦ refl | false ↦ refl ])
+laid_one_none a p xs = laid_nothing a _ xs (λ k. cond_none (eqb k p))
 
 -- the cells of a line, one after the other; the address of the cell c is p
 pub unwrap_or_cells_more : (l : Line) (c p : ℕ) → c < line_bytes → p ≡ l.number * line_bytes + c → (k v : ℕ) → unwrap_or (cond (eqb k p) (get_or l.cells c None) None) (unwrap_or (cells_below l c k) v) ≡ unwrap_or (cells_below l (c + 1) k) v

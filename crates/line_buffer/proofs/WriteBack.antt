@@ -1,12 +1,12 @@
 -- What one byte, and one line, written back leaves in the memory below.
-use Rattle.std.proofs.Common.{◌≡◌, ℕ, ◌+◌, ◌-◌, ◌*◌, ◌/◌, ◌%◌, ◌<◌, true, false, cond, eqb, List, [], ◌∷◌, length, get_or, set, is_ok, Some, None, Ok, Err, Option, Result, sym, refl, ap, ◌∙◌, ⊎_elim, add-one, arith}
+use Rattle.std.proofs.Common.{◌≡◌, ℕ, ◌+◌, ◌-◌, ◌*◌, ◌/◌, ◌%◌, ◌<◌, true, false, cond, eqb, List, [], ◌∷◌, length, get_or, set, is_ok, Some, None, Ok, Err, Result, sym, ap, ◌∙◌, ⊎_elim, add-one, arith}
 use Rattle.std.proofs.lemmas.List.{set_split}
 use Rattle.std.proofs.lemmas.Bool.{cases_eq, cases_Bool, cond-true, cond-false, eq-eqb, ne_eqb, leb-true, leb-false}
 use Rattle.model.specs.Memory.{within, splice}
 use Rattle.line_buffer.specs.declared.line.Line.{Line}
 use Rattle.line_buffer.specs.Lines.{line_bytes, numbers, apart, cell_at, held_at, laid}
 use Rattle.line_buffer.proofs.Held.{held_at_at, get_or_numbers}
-use Rattle.line_buffer.proofs.Laid.{laid_one, laid_one_outside, laid_nothing}
+use Rattle.line_buffer.proofs.Laid.{cond_none, laid_one, laid_one_outside, laid_nothing}
 use Rattle.line_buffer.proofs.Hold.{held_at_no_lines}
 
 pub splice_one : (xs : List ℕ) (p b : ℕ) → p < length xs → splice xs p (b ∷ []) ≡ set xs p b
@@ -49,7 +49,7 @@ cell_at_line ls i l k a h r =
 
 pub cell_at_unheld : (ls : List Line) (i : ℕ) (l : Line) (k : ℕ) → apart (numbers ls) ≡ true → i < length ls → l ≡ get_or ls i l → held_at ls k ≡ None → cell_at l k ≡ None
 cell_at_unheld ls i l k a h r o =
-    cell_at_line ls i l k a h r ∙ ap (λ v. cond (eqb (get_or (numbers ls) i 0) (k / line_bytes)) v None) o ∙ elim (eqb (get_or (numbers ls) i 0) (k / line_bytes)) as (λ b. cond {A = Option ℕ} b None None ≡ None) [ true ↦ refl | false ↦ refl ]
+    cell_at_line ls i l k a h r ∙ ap (λ v. cond (eqb (get_or (numbers ls) i 0) (k / line_bytes)) v None) o ∙ cond_none _
 
 pub laid_no_lines : (xs : List ℕ) → laid 0 (held_at []) xs ≡ xs
 laid_no_lines xs = sym (laid_nothing 0 (held_at []) xs held_at_no_lines)

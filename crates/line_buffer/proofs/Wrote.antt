@@ -1,5 +1,5 @@
 -- A whole write: one line after the other, what shows and what stays durable after it, its pieces, beginning and end.
-use Rattle.std.proofs.Common.{◌≡◌, ℕ, ◌+◌, ◌-◌, ◌*◌, ◌/◌, ◌%◌, ◌<◌, ◌≤◌, min, Bool, true, false, cond, not, ◌||◌, ◌⊎◌, List, [], ◌++◌, length, get_or, take, drop, is_some, Some, None, Option, unwrap_or, sym, refl, ap, ◌∙◌, subst, inl, inr, ⊎_elim, arith}
+use Rattle.std.proofs.Common.{◌≡◌, ℕ, ◌+◌, ◌-◌, ◌*◌, ◌/◌, ◌%◌, ◌<◌, ◌≤◌, min, Bool, true, false, cond, not, ◌||◌, List, [], ◌++◌, length, get_or, take, drop, is_some, None, unwrap_or, sym, refl, ap, ◌∙◌, subst, ⊎_elim, arith}
 use Rattle.std.proofs.lemmas.List.{length-append, length-map, length-take-le, length-drop, take-take, take-append-drop, take_all, nil_from_length, ext_get_or}
 use Rattle.std.proofs.lemmas.Slice.{between_is}
 use Rattle.std.proofs.lemmas.Bool.{cases_lt, cases_Bool, both_ways, lt-ltb, cond-false, ne_eqb, or_from, or_left, or_right, not-true, not_from_false, and_parts, and_from}
@@ -8,7 +8,7 @@ use Rattle.model.proofs.Splices.{length_splice, get_or_splice_below, get_or_spli
 use Rattle.line_buffer.specs.declared.line.Line.{Line}
 use Rattle.line_buffer.specs.Lines.{line_bytes, most_lines, line_number, numbers, member, held_at, laid, written, missing, touched, takes, safe, KeptBut, WroteBack, Ahead, Wrote}
 use Rattle.line_buffer.proofs.Distinct.{member_append}
-use Rattle.line_buffer.proofs.Laid.{length_laid, get_or_laid_from, laid_laid}
+use Rattle.line_buffer.proofs.Laid.{cond_none, none_of, length_laid, get_or_laid_from, laid_laid}
 use Rattle.line_buffer.proofs.Written.{cases_named, written_inside, written_below, written_above, written_other_line, written_none, written_written, written_same, missing_more, missing_one}
 use Rattle.line_buffer.proofs.Put.{if_member, unless_member, wrote_none}
 
@@ -64,7 +64,7 @@ module _ (ls : List Line) (xs : List ℕ) (a : ℕ) (ys : List ℕ) (m : ℕ) (l
               ∙ ⊎_elim
               (λ (t : member (k / line_bytes) w.gone ≡ true).
               ap (λ v. cond (member (k / line_bytes) next.gone) None v) (gone_before k t)
-              ∙ same_none (member (k / line_bytes) next.gone)
+              ∙ cond_none (member (k / line_bytes) next.gone)
               ∙ sym (if_member (k / line_bytes) _ _ _ (in_both (k / line_bytes) ∙ or_left _ _ t)))
               (λ (t : member (k / line_bytes) w.gone ≡ false).
               ap (λ v. cond (member (k / line_bytes) next.gone) None v) (first_then k t)
@@ -75,7 +75,7 @@ module _ (ls : List Line) (xs : List ℕ) (a : ℕ) (ys : List ℕ) (m : ℕ) (l
               ∙ laid_laid 0 _ _ _ xs (λ k v. ⊎_elim
               (λ (t : member (k / line_bytes) w.gone ≡ true).
               ap (λ u. unwrap_or u (unwrap_or (cond (member (k / line_bytes) w.gone) (written (held_at ls) a ys k) None) v))
-              (ap (λ u. cond (member (k / line_bytes) next.gone) u None) (gone_before k t) ∙ same_none (member (k / line_bytes) next.gone))
+              (ap (λ u. cond (member (k / line_bytes) next.gone) u None) (gone_before k t) ∙ cond_none (member (k / line_bytes) next.gone))
               ∙ ap (λ u. unwrap_or u v) (if_member (k / line_bytes) _ _ _ t ∙ went_before k t ∙ sym (if_member (k / line_bytes) _ _ _ (in_both (k / line_bytes) ∙ or_left _ _ t))))
               (λ (t : member (k / line_bytes) w.gone ≡ false).
               ap (λ u. unwrap_or (cond (member (k / line_bytes) next.gone) (written (held_at ls₁) b zs k) None) (unwrap_or u v)) (unless_member (k / line_bytes) _ _ _ t)
@@ -97,10 +97,6 @@ module _ (ls : List Line) (xs : List ℕ) (a : ℕ) (ys : List ℕ) (m : ℕ) (l
           away = λ j l u. in_both j ∙ or_from _ _ (ah.away j (omega arith) u) (ah₂.away j (omega arith) u);
         },
       )
-    where
-      same_none : (t : Bool) → cond {A = Option ℕ} t None None ≡ None
-      same_none true = refl
-      same_none false = refl
 
 -- what is read after a write, and what stays durable
 module _ (ls : List Line) (xs : List ℕ) (a : ℕ) (ys : List ℕ) (m : ℕ) (ls' : List Line) (xs' : List ℕ) (w : WroteBack ls xs a ys m ls' xs') where
@@ -136,7 +132,7 @@ module _ (ls : List Line) (xs : List ℕ) (a : ℕ) (ys : List ℕ) (m : ℕ) (l
 
   pub unheld_stays : (k : ℕ) → written (held_at ls) a ys k ≡ None → held_at ls' k ≡ None
   unheld_stays k o =
-      w.held k ∙ ap (λ v. cond (member (k / line_bytes) w.gone) None v) o ∙ elim (member (k / line_bytes) w.gone) as (λ t. cond {A = Option ℕ} t None None ≡ None) [ true ↦ refl | false ↦ refl ]
+      w.held k ∙ ap (λ v. cond (member (k / line_bytes) w.gone) None v) o ∙ cond_none _
 
   pub wrote_kept : (d d' : ℕ → Bool) → ((k : ℕ) → written (held_at ls) a ys k ≡ None → d k ≡ true → d' k ≡ true) → Kept (safe ls d) (safe ls' d') a (length ys)
   wrote_kept d d' h =
@@ -149,10 +145,6 @@ module _ (ls : List Line) (xs : List ℕ) (a : ℕ) (ys : List ℕ) (m : ℕ) (l
         below = λ k l. go k (written_below (held_at ls) a ys k l);
         above = λ k l. go k (written_above (held_at ls) a ys k l);
       }
-    where
-      none_of : (v : Option ℕ) → is_some v ≡ false → v ≡ None
-      none_of None e = refl
-      none_of (Some x) e = let z : ◌≡◌ {A = ℕ} 0 1 = cc in absurd (omega arith)
 
 -- the lines below q of a write are written, of those up to last; the memory m below keeps durable what is not written
 pub record UpTo {B : Type 0} (ls : List Line) (xs : List ℕ) (d : ℕ → Bool) (m : B) (a : ℕ) (from : List ℕ) (last q : ℕ) (ls' : List Line) (xs' : List ℕ) (d' : ℕ → Bool) (m' : B) : Type 0 where
@@ -190,16 +182,11 @@ module _ (ls : List Line) (xs : List ℕ) (a : ℕ) (from : List ℕ) (q : ℕ) 
       let z : done ≡ take (b - a) (take (e - a) from) = ap (λ n. take n from) (sym i) ∙ sym (take-take (b - a) (e - a) from (omega arith)) in
       ap (λ ws. ws ++ piece) z ∙ ap (λ ws. take (b - a) (take (e - a) from) ++ ws) (between_is from (b - a) (e - a)) ∙ take-append-drop (b - a) (take (e - a) from)
       ∙ ⊎_elim
-      (λ (l : (q + 1) * line_bytes - a ≤ length from). ap (λ n. take n from) (same_end l))
       (λ (l : length from < (q + 1) * line_bytes - a).
       take_all (e - a) from (omega arith) ∙ sym (take_all ((q + 1) * line_bytes - a) from (omega arith)))
-      (cases_le ((q + 1) * line_bytes - a) (length from))
-    where
-      same_end : (q + 1) * line_bytes - a ≤ length from → e - a ≡ (q + 1) * line_bytes - a
-      same_end l = omega arith
-
-      cases_le : (m n : ℕ) → (m ≤ n) ⊎ (n < m)
-      cases_le m n = ⊎_elim (λ (l : n < m). inr l) (λ (l : m ≤ n). inl l) (cases_lt n m)
+      (λ (l : (q + 1) * line_bytes - a ≤ length from).
+      let same : e - a ≡ (q + 1) * line_bytes - a = omega arith in ap (λ n. take n from) same)
+      (cases_lt (length from) ((q + 1) * line_bytes - a))
 
   module _ (before : Wrote ls xs a done (q - a / line_bytes) last ls₁ xs₁) where
     wrote_next : (ls₂ : List Line) (xs₂ : List ℕ) → Wrote ls₁ xs₁ b piece 1 last ls₂ xs₂ → length ls₂ ≤ most_lines → Wrote ls xs a (take ((q + 1) * line_bytes - a) from) (q + 1 - a / line_bytes) last ls₂ xs₂

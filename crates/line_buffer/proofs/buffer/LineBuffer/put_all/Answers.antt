@@ -1,4 +1,4 @@
-use Rattle.std.proofs.Common.{◌≡◌, ℕ, ◌+◌, ◌-◌, ◌*◌, ◌/◌, ◌<◌, ◌≤◌, length, vec_items, sym, arith, rules}
+use Rattle.std.proofs.Common.{◌≡◌, ◌+◌, ◌-◌, ◌*◌, ◌/◌, ◌<◌, ◌≤◌, length, vec_items, sym, arith}
 use Rattle.std.proofs.lemmas.Bool.{eqb-true, eqb-false}
 use Rattle.line_buffer.specs.Lines.{line_bytes, most_lines, held_at}
 use Rattle.line_buffer.proofs.Laid.{length_laid}
@@ -6,9 +6,6 @@ use Rattle.line_buffer.proofs.Wrote.{UpTo, up_to_start, up_to_next, up_to_all, w
 use Rattle.line_buffer.proofs.buffer.LineBuffer.put_all.Given.{Over}
 use Rattle.line_buffer.proofs.buffer.LineBuffer.put_all.Goals.{After-loop-number, After-put}
 use Rattle.line_buffer.proofs.buffer.LineBuffer.put_all.Goals as goal
-
-some : (n : ℕ) → (n ≡ 0 → ⊥) → 0 < n
-some n h = search rules
 
 pub returns-then-is_empty : goal.returns-then-is_empty
 returns-then-is_empty g c =
@@ -34,7 +31,7 @@ put-requires g c =
     let ls₁ = vec_items now.held.lines in
     let xs₁ = g.M.Memory.bytes now.below in
     let last = (a + length from - 1) / line_bytes in
-    let n = some (length from) (eqb-false _ _ (sym c.if-is_empty.ensures)) in
+    let n : 0 < length from = omega (arith, eqb-false _ _ (sym c.if-is_empty.ensures)) in
     let first : a / line_bytes ≤ q = c.loop-number.auto.number in
     let up : q ≤ last = c.loop-number-test.true in
     let more : last * line_bytes < a + length from = omega arith in
@@ -52,7 +49,7 @@ next g c =
     let a = c.args.at in
     let q = c.loop-number.number in
     let last = (a + length from - 1) / line_bytes in
-    let n = some (length from) (eqb-false _ _ (sym c.if-is_empty.ensures)) in
+    let n : 0 < length from = omega (arith, eqb-false _ _ (sym c.if-is_empty.ensures)) in
     let first : a / line_bytes ≤ q = c.loop-number.auto.number in
     let up : q ≤ last = c.loop-number-test.true in
     let more : last * line_bytes < a + length from = omega arith in
@@ -72,7 +69,7 @@ returns-else-is_empty g c =
     let now = c.loop-number.self in
     let ls = vec_items self.held.lines in
     let xs = g.M.Memory.bytes self.below in
-    let n = some (length c.args.from.now) (eqb-false _ _ (sym c.if-is_empty.ensures)) in
+    let n : 0 < length c.args.from.now = omega (arith, eqb-false _ _ (sym c.if-is_empty.ensures)) in
     let w = up_to_all ls xs (g.M.Memory.durable self.below) self.below c.args.at c.args.from.now c.loop-number.number (vec_items now.held.lines) (g.M.Memory.bytes now.below) (g.M.Memory.durable now.below) now.below
     (omega (arith, c.requires.range, length_laid 0 (held_at ls) xs)) n (omega (arith, c.loop-number-test.false, c.loop-number.auto.number-end)) c.loop-number.invariant in
     record { bytes = w.bytes; kept = w.kept; back = w.back; lazy = w.lazy }
@@ -84,7 +81,7 @@ returns-else-is_empty-2 g c =
     let then = c.put.new.self in
     let ls = vec_items self.held.lines in
     let xs = g.M.Memory.bytes self.below in
-    let n = some (length c.args.from.now) (eqb-false _ _ (sym c.if-is_empty.ensures)) in
+    let n : 0 < length c.args.from.now = omega (arith, eqb-false _ _ (sym c.if-is_empty.ensures)) in
     let w = up_to_all ls xs (g.M.Memory.durable self.below) self.below c.args.at c.args.from.now (c.loop-number.number + 1) (vec_items then.held.lines) (g.M.Memory.bytes then.below) (g.M.Memory.durable then.below) then.below
     (omega (arith, c.requires.range, length_laid 0 (held_at ls) xs)) n (omega arith) (next g (goal.at.returns-else-is_empty-2 g c).After-put) in
     record { bytes = w.bytes; kept = w.kept; back = w.back; lazy = w.lazy }

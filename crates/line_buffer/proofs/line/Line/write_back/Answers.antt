@@ -1,6 +1,6 @@
 use Rattle.std.proofs.Common.{ap, ◌∙◌, arith, rules}
 use Rattle.line_buffer.specs.Lines.{laid}
-use Rattle.line_buffer.proofs.Laid.{laid_laid, laid_nothing, laid_same, unwrap_or_cells_more, cells_below_none, cells_below_all}
+use Rattle.line_buffer.proofs.Laid.{laid_laid, laid_nothing, unwrap_or_cells_more, cells_below_none}
 use Rattle.line_buffer.proofs.WriteBack.{cell_none}
 use Rattle.line_buffer.proofs.line.Line.write_back.Goals as goal
 
@@ -13,10 +13,3 @@ loop-c-preserved g c = (
       ∙ laid_laid _ _ _ _ _ (unwrap_or_cells_more c.args.self c.loop-c.c _ (search rules) (omega arith)),
   λ k o t. c.write_cell.ensures.durable k (cell_none c.args.self c.loop-c.c _ k (search rules) (omega arith) o) (c.loop-c.invariant.1 k o t),
 )
-
-pub returns : goal.returns
-returns g c =
-    record {
-      bytes = c.loop-c.invariant.0 ∙ laid_same _ _ _ _ (λ k. cells_below_all c.args.self c.loop-c.c k (search rules));
-      durable = c.loop-c.invariant.1;
-    }

@@ -1,6 +1,5 @@
 use Rattle.std.proofs.Common.{sym, ap, ◌∙◌, subst, true, ◌≡◌}
-use Rattle.std.proofs.lemmas.List.{take_all}
-use Rattle.line_buffer.specs.Lines.{numbers, apart, laid, held_at}
+use Rattle.line_buffer.specs.Lines.{numbers, apart, laid}
 use Rattle.line_buffer.proofs.Laid.{laid_laid, laid_nothing}
 use Rattle.line_buffer.proofs.Hold.{unwrap_or_lines_more, held_at_no_lines}
 use Rattle.line_buffer.proofs.lines.HeldLines.overlay.Goals as goal
@@ -14,7 +13,3 @@ loop-line-preserved c =
     let distinct = subst (λ zs. apart (numbers zs) ≡ true) (sym c.deref-line-items.ensures.value) c.args.self.now.distinct in
     c.lay.ensures ∙ ap (laid c.args.at _) c.loop-line.invariant
     ∙ laid_laid _ _ _ _ _ (unwrap_or_lines_more ls c.loop-line.line-index _ distinct c.loop-line-test.true)
-
-pub returns : goal.returns
-returns c =
-    c.loop-line.invariant ∙ ap (λ ls. laid c.args.at (held_at ls) c.args.out.now) (take_all _ _ c.loop-line-test.false ∙ c.deref-line-items.ensures.value)

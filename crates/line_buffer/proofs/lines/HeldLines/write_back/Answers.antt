@@ -1,6 +1,5 @@
 use Rattle.std.proofs.Common.{◌≡◌, true, sym, ap, ◌∙◌, subst}
-use Rattle.std.proofs.lemmas.List.{take_all}
-use Rattle.line_buffer.specs.Lines.{numbers, apart, laid, overlaid}
+use Rattle.line_buffer.specs.Lines.{numbers, apart, laid}
 use Rattle.line_buffer.proofs.Laid.{laid_laid, laid_nothing}
 use Rattle.line_buffer.proofs.Hold.{unwrap_or_lines_more, held_at_no_lines}
 use Rattle.line_buffer.proofs.lines.HeldLines.write_back.Goals as goal
@@ -14,7 +13,3 @@ loop-line-preserved g c =
     let distinct = subst (λ zs. apart (numbers zs) ≡ true) (sym c.deref-line-items.ensures.value) c.args.self.now.distinct in
     c.write_back.ensures.bytes ∙ ap (laid 0 _) c.loop-line.invariant
     ∙ laid_laid _ _ _ _ _ (unwrap_or_lines_more ls c.loop-line.line-index _ distinct c.loop-line-test.true)
-
-pub returns : goal.returns
-returns g c =
-    c.loop-line.invariant ∙ ap (λ ls. overlaid ls (g.M.Memory.bytes c.args.below.now)) (take_all _ _ c.loop-line-test.false ∙ c.deref-line-items.ensures.value)
