@@ -1,6 +1,7 @@
 -- Laws of `member` and `apart`: one more number at the end, and one taken out.
 use Rattle.std.proofs.Common.{◌≡◌, ℕ, zero, suc, ◌<◌, true, false, cond, not, ◌||◌, eqb, List, [], ◌∷◌, ◌++◌, length, get_or, take, sym, refl, ap, ◌∙◌, ⊎_elim, arith}
 use Rattle.std.specs.List.{remove}
+use Rattle.std.proofs.Math.Bool.{or-false}
 use Rattle.std.proofs.lemmas.Bool.{and_parts, and_from, or_parts, or_from, or_left, or_right, not-true, not_from_false, eqb-false, eq-eqb, ne_eqb, both_ways, cases_Bool, cond-true, cond-false}
 use Rattle.line_buffer.specs.Lines.{member, apart}
 
@@ -10,7 +11,7 @@ member_none n = refl
 
 pub member_one : (n m : ℕ) → member n (m ∷ []) ≡ eqb n m
 unfolding member
-member_one n m = elim (eqb n m) as (λ b. (b || false) ≡ b) [ true ↦ refl | false ↦ refl ]
+member_one n m = or-false (eqb n m)
 
 pub member_append : (n : ℕ) (ms ks : List ℕ) → member n (ms ++ ks) ≡ (member n ms || member n ks)
 unfolding member
@@ -28,6 +29,11 @@ unfolding member
 get_or_member [] i h = absurd (omega arith)
 get_or_member (m ∷ ms) zero h = or_left _ _ (eq-eqb m m refl)
 get_or_member (m ∷ ms) (suc i) h = or_right (eqb (get_or ms i 0) m) _ (get_or_member ms i (omega arith))
+
+pub none_member : (ms : List ℕ) (n : ℕ) → ((k : ℕ) → k < length ms → get_or ms k 0 ≡ n → ⊥) → member n ms ≡ false
+unfolding member
+none_member [] n o = refl
+none_member (m ∷ ms) n o = or_from _ _ (ne_eqb n m (λ e. o 0 (omega arith) (sym e))) (none_member ms n (λ k l. o (suc k) (omega arith)))
 
 pub apart_push : (ms : List ℕ) (m : ℕ) → apart ms ≡ true → member m ms ≡ false → apart (ms ++ m ∷ []) ≡ true
 unfolding member apart

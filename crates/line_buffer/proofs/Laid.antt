@@ -1,9 +1,18 @@
 -- Laws of `laid`: the length, each byte, nothing laid over, and one laid over another.
-use Rattle.std.proofs.Common.{◌≡◌, ℕ, zero, suc, ◌+◌, ◌-◌, ◌*◌, ◌/◌, ◌%◌, ◌<◌, ◌≤◌, true, false, cond, eqb, List, [], ◌∷◌, length, get_or, set, Some, None, Option, unwrap_or, sym, refl, ap, ◌∙◌, ⊎_elim, arith}
+use Rattle.std.proofs.Common.{◌≡◌, ℕ, zero, suc, ◌+◌, ◌-◌, ◌*◌, ◌/◌, ◌%◌, ◌<◌, ◌≤◌, Bool, true, false, cond, eqb, List, [], ◌∷◌, length, get_or, set, is_some, Some, None, Option, unwrap_or, sym, refl, ap, ◌∙◌, ⊎_elim, arith}
 use Rattle.std.proofs.lemmas.List.{ext_get_or, length-set, get_or-set_same, get_or-set_other}
 use Rattle.std.proofs.lemmas.Bool.{cases_eq, cases_lt, cond-true, cond-false, eq-eqb, ne_eqb, lt-ltb, le-ltb}
 use Rattle.line_buffer.specs.declared.line.Line.{Line}
 use Rattle.line_buffer.specs.Lines.{line_bytes, cell_at, cells_below, laid}
+
+-- nothing is held, whichever way a test goes
+pub cond_none : (b : Bool) → cond {A = Option ℕ} b None None ≡ None
+cond_none true = refl
+cond_none false = refl
+
+pub none_of : (v : Option ℕ) → is_some v ≡ false → v ≡ None
+none_of None e = refl
+none_of (Some x) e = cc
 
 pub length_laid : (a : ℕ) (h : ℕ → Option ℕ) (xs : List ℕ) → length (laid a h xs) ≡ length xs
 unfolding laid
@@ -28,9 +37,6 @@ get_or_laid_from h xs k l = let e : 0 + k ≡ k = omega arith in get_or_laid 0 h
 
 pub laid_from_is : (h : ℕ → Option ℕ) (xs ys : List ℕ) → length ys ≡ length xs → ((k : ℕ) → k < length xs → get_or ys k 0 ≡ unwrap_or (h k) (get_or xs k 0)) → ys ≡ laid 0 h xs
 laid_from_is h xs ys e p = laid_is 0 h xs ys e (λ k l. let z : k ≡ 0 + k = omega arith in p k l ∙ ap (λ j. unwrap_or (h j) (get_or xs k 0)) z)
-
-pub laid_none : (h : ℕ → Option ℕ) (xs : List ℕ) → ((k : ℕ) → h k ≡ None) → laid 0 h xs ≡ xs
-laid_none h xs o = sym (laid_from_is h xs xs refl (λ k _. ap (λ v. unwrap_or v (get_or xs k 0)) (sym (o k))))
 
 -- g is laid over f: where g holds nothing, f's byte shows
 pub laid_laid : (a : ℕ) (f g h : ℕ → Option ℕ) (xs : List ℕ) → ((k v : ℕ) → unwrap_or (g k) (unwrap_or (f k) v) ≡ unwrap_or (h k) v) → laid a g (laid a f xs) ≡ laid a h xs
@@ -67,13 +73,13 @@ laid_one_outside a p v xs o =
     sym (ap (λ w. unwrap_or w (get_or xs k 0)) (cond-false _ _ _ (ne_eqb _ _ z))))
 
 pub laid_one_none : (a p : ℕ) (xs : List ℕ) → xs ≡ laid a (λ k. cond (eqb k p) None None) xs
-laid_one_none a p xs = laid_nothing a _ xs (λ k. elim (eqb k p) as (λ b. cond {A = Option ℕ} b None None ≡ None) [ true ↦ refl | false ↦ refl ])
+laid_one_none a p xs = laid_nothing a _ xs (λ k. cond_none (eqb k p))
 
--- the cells of a line, one after the other
-pub unwrap_or_cells_more : (l : Line) (c : ℕ) → c < line_bytes → (k v : ℕ) → unwrap_or (cond (eqb k (l.number * line_bytes + c)) (get_or l.cells c None) None) (unwrap_or (cells_below l c k) v) ≡ unwrap_or (cells_below l (c + 1) k) v
-unwrap_or_cells_more l c h k v =
+-- the cells of a line, one after the other; the address of the cell c is p
+pub unwrap_or_cells_more : (l : Line) (c p : ℕ) → c < line_bytes → p ≡ l.number * line_bytes + c → (k v : ℕ) → unwrap_or (cond (eqb k p) (get_or l.cells c None) None) (unwrap_or (cells_below l c k) v) ≡ unwrap_or (cells_below l (c + 1) k) v
+unwrap_or_cells_more l c p h at k v =
     ⊎_elim
-    (λ (e : k ≡ l.number * line_bytes + c).
+    (λ (e : k ≡ p).
     let d : k / line_bytes ≡ l.number = omega arith in
     let m : k % line_bytes ≡ c = omega arith in
     let f : cells_below l c k ≡ None = cond-false _ _ _ (le-ltb (k % line_bytes) c (omega arith)) in
@@ -81,7 +87,7 @@ unwrap_or_cells_more l c h k v =
     cond-true _ _ _ (lt-ltb (k % line_bytes) (c + 1) (omega arith)) ∙ cond-true _ _ _ (eq-eqb l.number (k / line_bytes) (sym d)) ∙ ap (λ j. get_or l.cells j None) m in
     ap (λ w. unwrap_or w (unwrap_or (cells_below l c k) v)) (cond-true _ _ _ (eq-eqb _ _ e))
     ∙ ap (λ w. unwrap_or (get_or l.cells c None) (unwrap_or w v)) f ∙ ap (λ w. unwrap_or w v) (sym g))
-    (λ (e : k ≡ l.number * line_bytes + c → ⊥).
+    (λ (e : k ≡ p → ⊥).
     let same : cells_below l c k ≡ cells_below l (c + 1) k =
     ⊎_elim
     (λ (lt : k % line_bytes < c). cond-true _ _ _ (lt-ltb (k % line_bytes) c lt) ∙ sym (cond-true _ _ _ (lt-ltb (k % line_bytes) (c + 1) (omega arith))))
@@ -95,7 +101,7 @@ unwrap_or_cells_more l c h k v =
     (cases_eq (k % line_bytes) c))
     (cases_lt (k % line_bytes) c) in
     ap (λ w. unwrap_or w (unwrap_or (cells_below l c k) v)) (cond-false _ _ _ (ne_eqb _ _ e)) ∙ ap (λ w. unwrap_or w v) same)
-    (cases_eq k (l.number * line_bytes + c))
+    (cases_eq k p)
 
 pub cells_below_none : (l : Line) (k : ℕ) → cells_below l 0 k ≡ None
 cells_below_none l k = cond-false _ _ _ (le-ltb (k % line_bytes) 0 (omega arith))

@@ -1,5 +1,6 @@
 pub mod Distinct
 pub mod Held
+pub mod Found
 pub mod Laid
 pub mod Cells
 pub mod Hold

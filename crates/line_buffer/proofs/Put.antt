@@ -1,6 +1,7 @@
 -- One line of a write: nothing yet, held where it has a place, in the place of another line, or sent back at once.
-use Rattle.std.proofs.Common.{◌≡◌, ℕ, ◌+◌, ◌/◌, ◌%◌, ◌<◌, ◌≤◌, Bool, true, false, cond, ◌||◌, eqb, ◌⊎◌, List, [], ◌∷◌, ◌++◌, length, get_or, None, Option, unwrap_or, sym, refl, ap, ◌∙◌, subst, ⊎_elim, arith}
+use Rattle.std.proofs.Common.{◌≡◌, ℕ, ◌+◌, ◌/◌, ◌%◌, ◌<◌, ◌≤◌, true, false, cond, ◌||◌, eqb, ◌⊎◌, List, [], ◌∷◌, ◌++◌, length, get_or, None, Option, unwrap_or, sym, refl, ap, ◌∙◌, subst, ⊎_elim, arith}
 use Rattle.std.specs.List.{remove}
+use Rattle.std.proofs.Math.Bool.{or-false}
 use Rattle.std.proofs.lemmas.List.{length-append, length-map}
 use Rattle.std.proofs.lemmas.List.Edits.{length-remove}
 use Rattle.std.proofs.lemmas.Bool.{cases_eq, cases_Bool, both_ways, lt-ltb, cond-true, cond-false, eq-eqb, ne_eqb, or_right}
@@ -60,12 +61,8 @@ module _ (ls : List Line) (a : ℕ) where
       ⊎_elim
       (λ (t : member (a / line_bytes) (numbers ls) ≡ true). ap (member j) (e ∙ cond-true _ _ _ t))
       (λ (t : member (a / line_bytes) (numbers ls) ≡ false).
-      ap (member j) (e ∙ cond-false _ _ _ t) ∙ member_push j (a / line_bytes) (numbers ls) ∙ ap (λ b. member j (numbers ls) || b) (ne_eqb _ _ ne) ∙ or_false (member j (numbers ls)))
+      ap (member j) (e ∙ cond-false _ _ _ t) ∙ member_push j (a / line_bytes) (numbers ls) ∙ ap (λ b. member j (numbers ls) || b) (ne_eqb _ _ ne) ∙ or-false (member j (numbers ls)))
       (cases_Bool (member (a / line_bytes) (numbers ls)))
-    where
-      or_false : (b : Bool) → (b || false) ≡ b
-      or_false true = refl
-      or_false false = refl
 
 module _ (ls : List Line) (xs : List ℕ) (a : ℕ) (ys : List ℕ) (fit : a % line_bytes + length ys ≤ line_bytes) where
   -- the line has a place

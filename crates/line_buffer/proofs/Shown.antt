@@ -1,11 +1,11 @@
 -- What the buffer shows: a part that is read, all durable once nothing is held, and what survives of it.
-use Rattle.std.proofs.Common.{◌≡◌, ℕ, ◌+◌, ◌<◌, ◌≤◌, Bool, true, false, not, List, [], length, get_or, drop, is_some, Some, None, Option, unwrap_or, sym, refl, ap, ◌∙◌, ⊎_elim, arith}
+use Rattle.std.proofs.Common.{◌≡◌, ℕ, ◌+◌, ◌<◌, ◌≤◌, Bool, true, not, List, [], length, get_or, drop, is_some, None, Option, unwrap_or, sym, ap, ◌∙◌, ⊎_elim, arith}
 use Rattle.std.proofs.lemmas.List.{ext_get_or, get_or-take, get_or-drop, get_or_past, length-take-le, length-drop}
 use Rattle.std.proofs.lemmas.Bool.{cases_lt, and_parts, and_from, not-true, not_from_false}
 use Rattle.model.specs.Memory.{part, AllDurable, Survived}
 use Rattle.line_buffer.specs.declared.line.Line.{Line}
 use Rattle.line_buffer.specs.Lines.{numbers, apart, held_at, laid, safe}
-use Rattle.line_buffer.proofs.Laid.{length_laid, get_or_laid, get_or_laid_from}
+use Rattle.line_buffer.proofs.Laid.{none_of, length_laid, get_or_laid, get_or_laid_from}
 use Rattle.line_buffer.proofs.Hold.{held_at_no_lines}
 use Rattle.line_buffer.proofs.WriteBack.{laid_no_lines}
 
@@ -42,7 +42,3 @@ survived_lines ls ls' xs ys d e s =
           (λ (l : length xs ≤ k). get_or_past xs k 0 l ∙ sym (get_or_past (laid 0 (held_at ls) xs) k 0 (omega (arith, length_laid 0 (held_at ls) xs))))
           (cases_lt k (length xs));
     }
-  where
-    none_of : (v : Option ℕ) → is_some v ≡ false → v ≡ None
-    none_of None e = refl
-    none_of (Some x) e = let z : ◌≡◌ {A = ℕ} 0 1 = cc in absurd (omega arith)

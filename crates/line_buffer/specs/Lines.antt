@@ -69,6 +69,10 @@ takes ns q = member q ns || nat_lt (length ns) most_lines
 abbrev pub safe : List Line → (ℕ → Bool) → ℕ → Bool
 safe ls d k = not (is_some (held_at ls k)) && d k
 
+-- what stays durable where h says which bytes are written: each byte that is not
+abbrev pub KeptBut : (ℕ → Option ℕ) → (ℕ → Bool) → (ℕ → Bool) → Type 0
+KeptBut h d d' = (k : ℕ) → h k ≡ None → d k ≡ true → d' k ≡ true
+
 -- What a write of the bytes ys from a, which touches m lines, may make of the lines ls over the bytes xs.
 -- Which lines go back is free. A line that goes back goes whole, and of it only the bytes that were written, now or
 -- before; and no more go back than are wanted: a line goes back only while eight others are held.

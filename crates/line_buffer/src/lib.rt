@@ -5,7 +5,7 @@
 mod buffer;
 pub mod calls;
 mod line;
-mod table;
+mod lines;
 mod writes;
 
 pub use buffer::LineBuffer;

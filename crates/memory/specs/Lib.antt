@@ -1,1 +1,2 @@
 pub mod Shadow
+pub mod Ranges

@@ -5,7 +5,7 @@ ghost use Rattle.model.specs.Numbers.{most_bytes};
 ghost use Rattle.model.specs.Memory.{capped, AllDurable, Survived};
 
 use crate::Memory;
-use crate::range::{fits, overwrite};
+use crate::range::{read_range, write_range};
 use model::numbers::MOST_BYTES;
 use model::refusal::Refusal;
 
@@ -31,8 +31,7 @@ impl DirectMemory {
     pub fn into_bytes(self) -> Vec<u8>
         ensures { result ≡ self.content }
     {
-        let DirectMemory { content } = self;
-        content
+        self.content
     }
 }
 
@@ -46,19 +45,11 @@ impl Memory for DirectMemory {
     }
 
     fn read(&self, at: usize, out: &mut [u8]) -> Result<(), Refusal> {
-        if !fits(self.content.len(), at, out.len()) {
-            return Err(Refusal::OutOfRange);
-        }
-        out.copy_from_slice(&self.content[at..at + out.len()]);
-        Ok(())
+        read_range(self.content.as_slice(), at, out)
     }
 
     fn write(&mut self, at: usize, from: &[u8]) -> Result<(), Refusal> {
-        if !fits(self.content.len(), at, from.len()) {
-            return Err(Refusal::OutOfRange);
-        }
-        overwrite(&mut self.content, at, from);
-        Ok(())
+        write_range(&mut self.content, at, from)
     }
 
     /// Does nothing: every byte is durable.

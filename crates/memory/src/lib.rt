@@ -10,7 +10,8 @@ pub mod survive;
 
 ghost use Rattle.std.specs.Prelude.{◌≡◌, ℕ, ◌≤◌, Bool, false, List, length, is_ok, if◌then◌else◌, Ok, Err};
 ghost use Rattle.model.specs.Numbers.{most_bytes};
-ghost use Rattle.model.specs.Memory.{within, part, splice, AllDurable, Kept, Survived};
+ghost use Rattle.model.specs.Memory.{part, splice, AllDurable, Kept, Survived};
+ghost use Rattle.memory.specs.Ranges.{answer_within};
 
 use model::refusal::Refusal;
 
@@ -29,12 +30,12 @@ pub trait Memory {
 
     /// Copies the bytes from an address on into a buffer, as many as it holds.
     fn read(&self, at: usize, out: &mut [u8]) -> Result<(), Refusal>
-        ensures answer { result ≡ (if within (bytes self.now) at (length out.old) then Ok tt else Err Refusal.OutOfRange) }
+        ensures answer { result ≡ answer_within (bytes self.now) at (length out.old) }
         ensures copied { out.new ≡ (if is_ok result then part (bytes self.now) at (length out.old) else out.old) };
 
     /// Gives the bytes from an address on new values; whether these are durable is the memory's choice.
     fn write(&mut self, at: usize, from: &[u8]) -> Result<(), Refusal>
-        ensures answer { result ≡ (if within (bytes self.old) at (length from.now) then Ok tt else Err Refusal.OutOfRange) }
+        ensures answer { result ≡ answer_within (bytes self.old) at (length from.now) }
         ensures bytes { bytes self.new ≡ (if is_ok result then splice (bytes self.old) at from.now else bytes self.old) }
         ensures kept { Kept (durable self.old) (durable self.new) at (length from.now) }
         ensures refused { is_ok result ≡ false → (k : ℕ) → durable self.new k ≡ durable self.old k };

@@ -1,7 +1,10 @@
-//! The one test of a range against a length, and the one copy into a range.
+//! The one test of a range against a length, and the copies out of a range and into it.
 
-ghost use Rattle.std.specs.Prelude.{◌≡◌, ℕ, ◌+◌, ◌<◌, ◌≤◌, length, vec_len, nat_le, slice_index};
-ghost use Rattle.model.specs.Memory.{splice};
+ghost use Rattle.std.specs.Prelude.{◌≡◌, ℕ, ◌+◌, ◌≤◌, length, is_ok, if◌then◌else◌, vec_len, nat_le};
+ghost use Rattle.model.specs.Memory.{part, splice};
+ghost use Rattle.memory.specs.Ranges.{answer_of, answer_within};
+
+use model::refusal::Refusal;
 
 /// Whether `count` elements from `at` on lie within `len`, also where `at + count` passes the largest number.
 pub fn fits(len: usize, at: usize, count: usize) -> bool
@@ -10,22 +13,34 @@ pub fn fits(len: usize, at: usize, count: usize) -> bool
     at <= len && count <= len - at
 }
 
-/// Copies bytes over those that stand from `at` on.
-pub(crate) fn overwrite(content: &mut Vec<u8>, at: usize, from: &[u8])
-    requires { at + length from.now ≤ vec_len content.old }
-    ensures items { content.new.items ≡ splice content.old.items at from.now }
-    ensures len { vec_len content.new ≡ vec_len content.old }
-    ensures before { (k : ℕ) → k < at → slice_index content.new.items k ≡ slice_index content.old.items k }
-    ensures after { (k : ℕ) → at + length from.now ≤ k → slice_index content.new.items k ≡ slice_index content.old.items k }
+/// The answer to a call for `count` elements from `at` on among `len`.
+pub fn check_range(len: usize, at: usize, count: usize) -> Result<(), Refusal>
+    ensures { result ≡ answer_of (nat_le (at + count) len) }
 {
-    content[at..at + from.len()].copy_from_slice(from);
+    if fits(len, at, count) {
+        Ok(())
+    } else {
+        Err(Refusal::OutOfRange)
+    }
 }
 
-/// Copies bytes over as many others.
-pub(crate) fn refill(content: &mut Vec<u8>, from: &[u8])
-    requires { length from.now ≡ vec_len content.old }
-    ensures items { content.new.items ≡ from.now }
+/// Copies the bytes from an address on into a buffer, as many as it holds.
+pub(crate) fn read_range(content: &[u8], at: usize, out: &mut [u8]) -> Result<(), Refusal>
+    ensures answer { result ≡ answer_within content.now at (length out.old) }
+    ensures copied { out.new ≡ (if is_ok result then part content.now at (length out.old) else out.old) }
+{
+    check_range(content.len(), at, out.len())?;
+    out.copy_from_slice(&content[at..at + out.len()]);
+    Ok(())
+}
+
+/// Copies bytes over those that stand from an address on.
+pub(crate) fn write_range(content: &mut Vec<u8>, at: usize, from: &[u8]) -> Result<(), Refusal>
+    ensures answer { result ≡ answer_within content.old.items at (length from.now) }
+    ensures items { content.new.items ≡ (if is_ok result then splice content.old.items at from.now else content.old.items) }
     ensures len { vec_len content.new ≡ vec_len content.old }
 {
-    overwrite(content, 0, from);
+    check_range(content.len(), at, from.len())?;
+    content[at..at + from.len()].copy_from_slice(from);
+    Ok(())
 }

@@ -2,11 +2,12 @@
 
 ghost use Rattle.std.specs.Prelude.{◌≡◌, ℕ, ◌≤◌, false, length, is_ok, if◌then◌else◌, Ok, Err, vec_len};
 ghost use Rattle.model.specs.Numbers.{most_bytes};
-ghost use Rattle.model.specs.Memory.{within, paired, splice, AllDurable, Kept, Survived};
+ghost use Rattle.model.specs.Memory.{paired, splice, AllDurable, Kept, Survived};
 ghost use Rattle.memory.specs.Shadow.{agree};
+ghost use Rattle.memory.specs.Ranges.{answer_within};
 
 use crate::Memory;
-use crate::range::{fits, overwrite, refill};
+use crate::range::{read_range, write_range};
 use model::numbers::MOST_BYTES;
 use model::refusal::Refusal;
 
@@ -37,8 +38,7 @@ impl ShadowMemory {
         ensures working { result.0 ≡ self.working }
         ensures image { result.1 ≡ self.image }
     {
-        let ShadowMemory { working, image } = self;
-        (working, image)
+        (self.working, self.image)
     }
 }
 
@@ -52,26 +52,18 @@ impl Memory for ShadowMemory {
     }
 
     fn read(&self, at: usize, out: &mut [u8]) -> Result<(), Refusal> {
-        if !fits(self.working.len(), at, out.len()) {
-            return Err(Refusal::OutOfRange);
-        }
-        out.copy_from_slice(&self.working[at..at + out.len()]);
-        Ok(())
+        read_range(self.working.as_slice(), at, out)
     }
 
     /// Alters the working half alone.
     fn write(&mut self, at: usize, from: &[u8]) -> Result<(), Refusal>
-        ensures answer { result ≡ (if within self.old.working.items at (length from.now) then Ok tt else Err Refusal.OutOfRange) }
+        ensures answer { result ≡ answer_within self.old.working.items at (length from.now) }
         ensures bytes { self.new.working.items ≡ (if is_ok result then splice self.old.working.items at from.now else self.old.working.items) }
         ensures kept { Kept (agree self.old.working.items self.old.image.items) (agree self.new.working.items self.new.image.items) at (length from.now) }
         ensures refused { is_ok result ≡ false → (k : ℕ) → agree self.new.working.items self.new.image.items k ≡ agree self.old.working.items self.old.image.items k }
         ensures image { self.new.image.items ≡ self.old.image.items }
     {
-        if !fits(self.working.len(), at, from.len()) {
-            return Err(Refusal::OutOfRange);
-        }
-        overwrite(&mut self.working, at, from);
-        Ok(())
+        write_range(&mut self.working, at, from)
     }
 
     /// Copies the working half to the image.
@@ -80,7 +72,7 @@ impl Memory for ShadowMemory {
         ensures durable { AllDurable (agree self.new.working.items self.new.image.items) }
         ensures image { self.new.image.items ≡ self.old.working.items }
     {
-        refill(&mut self.image, self.working.as_slice());
+        self.image.copy_from_slice(self.working.as_slice());
     }
 
     /// Copies the image to the working half.
@@ -90,6 +82,6 @@ impl Memory for ShadowMemory {
         ensures shown { self.new.working.items ≡ self.old.image.items }
         ensures image { self.new.image.items ≡ self.old.image.items }
     {
-        refill(&mut self.working, self.image.as_slice());
+        self.working.copy_from_slice(self.image.as_slice());
     }
 }

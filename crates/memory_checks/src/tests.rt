@@ -7,6 +7,7 @@ use memory::direct::DirectMemory;
 use memory::range::fits;
 use memory::shadow::ShadowMemory;
 use memory::survive::write_and_survive;
+use model::refusal::Refusal;
 use std::alloc::{AllocError, Global};
 use std::process::Abort;
 use std::test::Fail;
@@ -28,64 +29,50 @@ fn buffered<M: Memory + Drop>(heap: Global, below: M) -> Result<LineBuffer<M>, A
     Ok(LineBuffer::new(heap, below)?)
 }
 
-/// The number of a refusal of a read, or 0.
-fn read_answer<M: Memory>(memory: &M, at: usize, out: &mut [u8]) -> u8 {
-    match memory.read(at, out) {
-        Ok(_) => 0,
-        Err(refusal) => refusal.number(),
-    }
-}
-
-/// The number of a refusal of a write, or 0.
-fn write_answer<M: Memory>(memory: &mut M, at: usize, from: &[u8]) -> u8 {
-    match memory.write(at, from) {
-        Ok(_) => 0,
-        Err(refusal) => refusal.number(),
-    }
-}
-
 /// The byte at an address, or 255 past the end.
 fn byte_at<M: Memory>(memory: &M, at: usize) -> u8 {
     let mut out = [255u8; 1];
-    let _ = read_answer(memory, at, &mut out);
+    let _ = memory.read(at, &mut out);
     out[0]
 }
+
+/// Whether the bytes at some addresses are as expected.
+fn check_bytes<M: Memory>(rt: &impl Abort, memory: &M, expected: &[(usize, u8)]) {
+    for (at, byte) in expected {
+        assert_eq!(rt; byte_at(memory, *at), *byte);
+    }
+}
+
+/// What a call within the bytes of a memory answers.
+const DONE: Result<(), Refusal> = Ok(());
+
+/// What a call that passes the end of a memory answers.
+const PAST: Result<(), Refusal> = Err(Refusal::OutOfRange);
 
 /// Whether a memory of 160 bytes refuses what passes its end, and nothing else.
 fn check_ranges<M: Memory>(rt: &impl Abort, memory: &mut M) {
     let cases = [
-        (0, 0, 0),
-        (0, 4, 0),
-        (156, 4, 0),
-        (160, 0, 0),
-        (157, 4, 4),
-        (160, 1, 4),
-        (161, 0, 4),
-        (usize::MAX, 0, 4),
-        (usize::MAX, 4, 4),
-        (usize::MAX - 3, 4, 4),
+        (0, 0, DONE),
+        (0, 4, DONE),
+        (156, 4, DONE),
+        (160, 0, DONE),
+        (157, 4, PAST),
+        (160, 1, PAST),
+        (161, 0, PAST),
+        (usize::MAX, 0, PAST),
+        (usize::MAX, 4, PAST),
+        (usize::MAX - 3, 4, PAST),
     ];
     let data = [1u8, 2, 3, 4];
     for (at, count, expected) in cases {
         assert!(rt; count <= 4);
         let mut out = [9u8; 4];
-        assert_eq!(rt;
-            write_answer(memory, at, &data[0..count]),
-            expected,
-            "write"
-        );
-        assert_eq!(rt;
-            read_answer(memory, at, &mut out[0..count]),
-            expected,
-            "read"
-        );
-        if expected == 0 && count == 4 {
-            assert!(rt;
-                out[0] == 1 && out[1] == 2 && out[2] == 3 && out[3] == 4,
-                "read back"
-            );
+        assert_eq!(rt; memory.write(at, &data[..count]), expected, "write");
+        assert_eq!(rt; memory.read(at, &mut out[..count]), expected, "read");
+        if expected.is_ok() && count == 4 {
+            assert_eq!(rt; out, data, "read back");
         } else {
-            assert!(rt; out[0] == 9 && out[3] == 9, "a refused read alters nothing");
+            assert_eq!(rt; out, [9; 4], "a refused read alters nothing");
         }
     }
 }
@@ -145,9 +132,9 @@ fn a_memory_given_too_much_has_no_bytes(rt: HostRuntime) -> Result<(), Fail> {
 fn a_shadow_memory_shows_the_image_after_a_restart(rt: HostRuntime) -> Result<(), Fail> {
     let heap = rt.alloc();
     let mut memory = shadow(heap, 4, 4)?;
-    assert_eq!(rt; write_answer(&mut memory, 1, &[7]), 0);
+    memory.write(1, &[7])?;
     memory.flush();
-    assert_eq!(rt; write_answer(&mut memory, 1, &[8, 9]), 0);
+    memory.write(1, &[8, 9])?;
     assert_eq!(rt; byte_at(&memory, 1), 8);
     memory.restart();
     assert_eq!(rt; byte_at(&memory, 1), 7);
@@ -160,20 +147,17 @@ fn eight_lines_are_held_and_the_ninth_sends_the_oldest_back(rt: HostRuntime) -> 
     let heap = rt.alloc();
     let mut memory = buffered(heap, direct(heap, 160)?)?;
     for line in 0..8usize {
-        assert_eq!(rt; write_answer(&mut memory, line * 16, &[1]), 0);
+        memory.write(line * 16, &[1])?;
         assert_eq!(rt;
             byte_at(memory.below(), 0),
             0,
             "nothing goes back before the ninth line"
         );
     }
-    assert_eq!(rt; write_answer(&mut memory, 8 * 16, &[1]), 0);
+    memory.write(8 * 16, &[1])?;
     for line in 0..9usize {
         assert_eq!(rt; byte_at(&memory, line * 16), 1);
-        assert_eq!(rt;
-            byte_at(memory.below(), line * 16),
-            if line == 0 { 1 } else { 0 }
-        );
+        assert_eq!(rt; byte_at(memory.below(), line * 16), u8::from(line == 0));
     }
     memory.restart();
     assert_eq!(rt; byte_at(&memory, 0), 1);
@@ -186,9 +170,9 @@ fn a_line_that_is_still_to_be_written_does_not_go_back(rt: HostRuntime) -> Resul
     let heap = rt.alloc();
     let mut memory = buffered(heap, direct(heap, 160)?)?;
     for line in 1..9usize {
-        assert_eq!(rt; write_answer(&mut memory, line * 16, &[1]), 0);
+        memory.write(line * 16, &[1])?;
     }
-    assert_eq!(rt; write_answer(&mut memory, 14, &[2, 2, 2, 2]), 0);
+    memory.write(14, &[2, 2, 2, 2])?;
     assert_eq!(rt; byte_at(memory.below(), 16), 0, "line 1 is written too");
     assert_eq!(rt;
         byte_at(memory.below(), 32),
@@ -209,8 +193,8 @@ fn a_write_longer_than_the_buffer_shows_whole(rt: HostRuntime) -> Result<(), Fai
     let heap = rt.alloc();
     let mut memory = buffered(heap, direct(heap, 160)?)?;
     let data = [6u8; 150];
-    assert_eq!(rt; write_answer(&mut memory, 5, &data), 0);
-    for (at, expected) in [
+    memory.write(5, &data)?;
+    let expected = [
         (4, 0),
         (5, 6),
         (16, 6),
@@ -218,22 +202,11 @@ fn a_write_longer_than_the_buffer_shows_whole(rt: HostRuntime) -> Result<(), Fai
         (128, 6),
         (154, 6),
         (155, 0),
-    ] {
-        assert_eq!(rt; byte_at(&memory, at), expected);
-    }
+    ];
+    check_bytes(&rt, &memory, &expected);
     memory.flush();
     memory.restart();
-    for (at, expected) in [
-        (4, 0),
-        (5, 6),
-        (16, 6),
-        (127, 6),
-        (128, 6),
-        (154, 6),
-        (155, 0),
-    ] {
-        assert_eq!(rt; byte_at(&memory, at), expected);
-    }
+    check_bytes(&rt, &memory, &expected);
     Ok(())
 }
 
@@ -241,13 +214,12 @@ fn a_write_longer_than_the_buffer_shows_whole(rt: HostRuntime) -> Result<(), Fai
 fn of_a_partial_line_only_written_bytes_go_back(rt: HostRuntime) -> Result<(), Fail> {
     let heap = rt.alloc();
     let mut memory = buffered(heap, DirectMemory::new(vec![in heap; 3u8; 20]?))?;
-    assert_eq!(rt; write_answer(&mut memory, 17, &[4]), 0);
+    memory.write(17, &[4])?;
     assert_eq!(rt; byte_at(memory.below(), 17), 3);
     memory.flush();
-    for (at, expected) in [(15, 3), (16, 3), (17, 4), (18, 3), (19, 3), (20, 255)] {
-        assert_eq!(rt; byte_at(&memory, at), expected);
-        assert_eq!(rt; byte_at(memory.below(), at), expected);
-    }
+    let expected = [(15, 3), (16, 3), (17, 4), (18, 3), (19, 3), (20, 255)];
+    check_bytes(&rt, &memory, &expected);
+    check_bytes(&rt, memory.below(), &expected);
     Ok(())
 }
 
@@ -258,7 +230,7 @@ fn a_line_buffer_over_a_line_buffer_loses_what_neither_flushed(
     let heap = rt.alloc();
     let mut memory = buffered(heap, buffered(heap, direct(heap, 320)?)?)?;
     for line in 0..17usize {
-        assert_eq!(rt; write_answer(&mut memory, line * 16, &[1]), 0);
+        memory.write(line * 16, &[1])?;
     }
     assert_eq!(rt;
         byte_at(memory.below().below(), 0),
@@ -269,7 +241,7 @@ fn a_line_buffer_over_a_line_buffer_loses_what_neither_flushed(
     assert_eq!(rt; byte_at(memory.below(), 8 * 16), 1);
     memory.restart();
     for line in 0..17usize {
-        assert_eq!(rt; byte_at(&memory, line * 16), if line == 0 { 1 } else { 0 });
+        assert_eq!(rt; byte_at(&memory, line * 16), u8::from(line == 0));
     }
     Ok(())
 }
@@ -277,12 +249,9 @@ fn a_line_buffer_over_a_line_buffer_loses_what_neither_flushed(
 #[test]
 fn what_was_flushed_survives_in_every_memory(rt: HostRuntime) -> Result<(), Fail> {
     let heap = rt.alloc();
-    let mut plain = direct(heap, 64)?;
-    check_survives(&rt, &mut plain)?;
-    let mut shadowed = shadow(heap, 64, 64)?;
-    check_survives(&rt, &mut shadowed)?;
-    let mut over = buffered(heap, shadow(heap, 64, 64)?)?;
-    check_survives(&rt, &mut over)?;
+    check_survives(&rt, &mut direct(heap, 64)?)?;
+    check_survives(&rt, &mut shadow(heap, 64, 64)?)?;
+    check_survives(&rt, &mut buffered(heap, shadow(heap, 64, 64)?)?)?;
     let mut counting = CountingMemory::new(shadow(heap, 64, 64)?);
     check_survives(&rt, &mut counting)?;
     assert_eq!(rt; counting.flushes(), 1);
@@ -292,11 +261,7 @@ fn what_was_flushed_survives_in_every_memory(rt: HostRuntime) -> Result<(), Fail
 /// Whether bytes come back that were written and flushed, also where a line ends among them.
 fn check_survives<M: Memory>(rt: &impl Abort, memory: &mut M) -> Result<(), Fail> {
     let mut out = [0u8; 3];
-    match write_and_survive(memory, 15, &[1, 2, 3], &mut out) {
-        Ok(_) => {
-            assert!(rt; out[0] == 1 && out[1] == 2 && out[2] == 3);
-            Ok(())
-        },
-        Err(_) => Err(Fail::new("refused")),
-    }
+    write_and_survive(memory, 15, &[1, 2, 3], &mut out)?;
+    assert_eq!(rt; out, [1, 2, 3]);
+    Ok(())
 }

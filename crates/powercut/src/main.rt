@@ -14,13 +14,8 @@ use trial::{Outcome, try_memory};
 
 const BYTES: usize = 160;
 
-/// What became of bytes, in a word.
-fn word(survived: bool) -> &'static str {
-    if survived { "survived" } else { "were lost" }
-}
-
 /// Prints what the trial of one memory came to.
-fn report<M: Memory>(rt: &HostRuntime, name: &str, memory: &mut M) -> io::Result<()> {
+fn report<M: Memory>(rt: &impl Print, name: &str, memory: &mut M) -> io::Result<()> {
     match try_memory(memory) {
         Ok(
             Outcome {
@@ -29,17 +24,12 @@ fn report<M: Memory>(rt: &HostRuntime, name: &str, memory: &mut M) -> io::Result
                 lines,
             },
         ) => {
-            let flushed = word(flushed);
-            let unflushed = word(unflushed);
             println!(rt; "{name}:")?;
             println!(rt; "  flushed bytes {flushed}")?;
             println!(rt; "  bytes not flushed {unflushed}")?;
             println!(rt; "  of nine lines not flushed, {lines} survived")
         }
-        Err(refusal) => {
-            let number = refusal.number();
-            println!(rt; "{name}: refused with {number}")
-        }
+        Err(refusal) => println!(rt; "{name}: refused with {refusal}"),
     }
 }
 

@@ -1,10 +1,15 @@
 //! What one memory is put through.
 
-ghost use Rattle.std.specs.Prelude.{◌≡◌, ◌≤◌, true, IfOk};
+ghost use Rattle.std.specs.Prelude.{◌≡◌, ◌≤◌, ◌↔◌, Some, IfOk, if◌then◌else◌, codes};
+ghost use Rattle.powercut.specs.declared.trial.Fate.TheVariants.{Survived, Lost};
 
 use memory::Memory;
 use memory::survive::write_and_survive;
 use model::refusal::Refusal;
+use std::fmt;
+
+/// Bytes of a line buffer's line.
+const LINE_BYTES: usize = 16;
 
 /// One line more than a line buffer holds.
 const LINES: usize = 9;
@@ -12,28 +17,59 @@ const LINES: usize = 9;
 /// The byte that is written into each line.
 const MARK: u8 = 5;
 
+/// What became of bytes.
+#[derive(Clone, Copy, PartialEq, Eq, Debug)]
+pub enum Fate {
+    /// They read as written.
+    Survived,
+    /// They read otherwise.
+    Lost,
+}
+
+impl Fate {
+    /// The fate of bytes that were written, by what is read back.
+    fn of(written: &[u8], read: &[u8]) -> Fate
+        ensures { (result ≡ Survived) ↔ (read.now ≡ written.now) }
+    {
+        if read == written {
+            Fate::Survived
+        } else {
+            Fate::Lost
+        }
+    }
+}
+
+impl fmt::Display for Fate {
+    fn fmt<W: fmt::Write>(&self, f: &mut fmt::Formatter<W>) -> fmt::Result {
+        match self {
+            Fate::Survived => write!(f, "survived"),
+            Fate::Lost => write!(f, "were lost"),
+        }
+    }
+}
+
 /// What survived a loss of power.
 #[derive(Clone, Copy)]
 pub struct Outcome {
-    /// Whether bytes that were flushed read as written.
-    pub flushed: bool,
-    /// Whether bytes that were not flushed read as written.
-    pub unflushed: bool,
+    /// What became of bytes that were flushed.
+    pub flushed: Fate,
+    /// What became of bytes that were not flushed.
+    pub unflushed: Fate,
     /// How many of nine lines that were not flushed read as written.
     pub lines: usize,
 }
 
 /// Cuts the power on a memory with bytes flushed, with bytes not flushed, and with nine lines not flushed.
 pub fn try_memory<M: Memory>(memory: &mut M) -> Result<Outcome, Refusal>
-    ensures { IfOk result (λ o. (o.flushed ≡ true) × (o.lines ≤ 9)) }
+    ensures { IfOk result (λ o. (o.flushed ≡ Survived) × (o.lines ≤ 9)) }
 {
     let mut back = [0u8; 3];
     write_and_survive(memory, 3, &[7, 8, 9], &mut back)?;
-    let flushed = back[0] == 7 && back[1] == 8 && back[2] == 9;
+    let flushed = Fate::of(&[7, 8, 9], &back);
     memory.write(3, &[1, 2, 3])?;
     memory.restart();
     memory.read(3, &mut back)?;
-    let unflushed = back[0] == 1 && back[1] == 2 && back[2] == 3;
+    let unflushed = Fate::of(&[1, 2, 3], &back);
     write_lines(memory)?;
     memory.restart();
     let lines = count_lines(memory)?;
@@ -47,7 +83,7 @@ pub fn try_memory<M: Memory>(memory: &mut M) -> Result<Outcome, Refusal>
 /// Writes a byte into each of nine lines.
 fn write_lines<M: Memory>(memory: &mut M) -> Result<(), Refusal> {
     for line in 0..LINES {
-        memory.write(line * 16, &[MARK])?;
+        memory.write(line * LINE_BYTES, &[MARK])?;
     }
     Ok(())
 }
@@ -58,9 +94,9 @@ fn count_lines<M: Memory>(memory: &M) -> Result<usize, Refusal>
 {
     let mut count = 0;
     for line in 0..LINES {
-        let mut byte = [0u8; 1];
-        memory.read(line * 16, &mut byte)?;
-        if byte[0] == MARK {
+        let mut byte = [0u8];
+        memory.read(line * LINE_BYTES, &mut byte)?;
+        if byte == [MARK] {
             count += 1;
         }
     }
