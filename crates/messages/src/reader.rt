@@ -80,7 +80,7 @@ fn read_vote<'a>(bytes: &'a [u8]) -> Option<Body<'a>>
     if bytes.len() < 1 {
         return None;
     }
-    let Some(vote) = Vote::of_number(bytes[0]) else {
+    let Ok(vote) = Vote::try_from(bytes[0]) else {
         return None;
     };
     let (_, reads) = bytes.split_at(1);

@@ -72,7 +72,7 @@ fn put_body(buffer: &mut [u8], body: &Body<'_>)
             put_list(buffer, BODY + 1, *items);
         }
         Body::Vote { vote, reads } => {
-            put(buffer, BODY, &[vote.number()]);
+            put(buffer, BODY, &[u8::from(*vote)]);
             put(buffer, BODY + 1, reads);
         }
         Body::Finish { committed } => put(buffer, BODY, &[*committed as u8]),

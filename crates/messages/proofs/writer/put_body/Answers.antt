@@ -37,5 +37,5 @@ returns-in-Vote c =
     in let form : body_meaning c.args.body.now ≡ voted c.in-Vote.vote reads = ap body_meaning c.in-Vote.is
     in let fits : 12 + (1 + length reads) ≤ length buffer = omega (arith, room buffer _ _ form c.requires.body_in_bounds)
     in c.put-in-Vote-2.ensures ∙
-    ap (λ b. placed b 13 reads) (c.put-in-Vote.ensures ∙ ap (λ n. placed buffer 12 (n ∷ [])) c.number.ensures) ∙
+    ap (λ b. placed b 13 reads) (c.put-in-Vote.ensures ∙ ap (λ n. placed buffer 12 (n ∷ [])) c.from.ensures) ∙
     placed_more buffer 12 first reads fits ∙ ap (λ b. splice buffer 12 (encode_body b)) (sym form)
