@@ -1,9 +1,7 @@
 -- What is kept in a table, and what the journal shows of it.
-use Rattle.std.proofs.Common.{◌≡◌, ℕ, suc, ◌<◌, Bool, true, false, cond, eqb, ltb, ◌⊎◌, List, [], ◌∷◌, map, length, get_or, drop, set, Some, None, Option, sym, refl, ap, ◌∙◌, ap₂, inl, inr, arith}
+use Rattle.std.proofs.Common.{◌≡◌, ℕ, suc, ◌<◌, Bool, true, false, cond, eqb, ltb, ◌⊎◌, List, [], ◌∷◌, map, length, get_or, set, Some, None, Option, sym, refl, ap, ◌∙◌, ap₂, inl, inr, arith}
 use Rattle.std.proofs.lemmas.List.{length-map, map-set, get_or-map, set_past}
-use Rattle.std.proofs.lemmas.Option.{slice_get-get_or}
 use Rattle.std.proofs.lemmas.Bool.{ltb-true, ltb-false}
-use Rattle.std.specs.List.{slice_get}
 use Rattle.std.specs.Option.{option_map}
 use Rattle.model.specs.declared.outcome.Outcome.{Outcome}
 use Rattle.model.specs.Lists.{place, place_in, stands}
@@ -14,14 +12,14 @@ use Rattle.journal.specs.Entries.{stored_entry, durable_entry, durable_outcome}
 use Rattle.journal.specs.Restarts.{if_durable, only_durable}
 
 abbrev tid_in : Entry → ℕ
-tid_in e = e.tid
+tid_in e = e.promise.tid
 
 -- ## The search by tid
 
 pub place_stored : (n : ℕ) (es : List Entry) → place tid_of n (map stored_entry es) ≡ place tid_in n es
 unfolding place
 place_stored n [] = refl
-place_stored n (e ∷ es) = ap (λ k. cond (eqb e.tid n) 0 (suc k)) (place_stored n es)
+place_stored n (e ∷ es) = ap (λ k. cond (eqb e.promise.tid n) 0 (suc k)) (place_stored n es)
 
 found_parts : (b : Bool) (i k : ℕ) → Some i ≡ cond b (Some k) None → (b ≡ true) × (i ≡ k)
 found_parts true i k e = (refl, cc)
@@ -63,21 +61,6 @@ noted_found es tid i e x o found here new =
       stands_stored tid es ∙ parts.0,
       map-set stored_entry es i x ∙ ap₂ (λ k y. set (map stored_entry es) k y) same (new ∙ ap (λ y. with_outcome y o) was),
     )
-
--- ## The oldest entry, and any other
-
-pub dropped_none :
-    (es : List Entry) →
-    length es ≡ 0 → (eqb (length (map stored_entry es)) 0 ≡ true) × (map stored_entry es ≡ drop 1 (map stored_entry es))
-dropped_none [] h = (refl, refl)
-dropped_none (e ∷ es) h = absurd (omega arith)
-
-pub shown_at :
-    (es : List Entry) (i : ℕ) (e : Entry) (x : PlainEntry) →
-    i < length es → e ≡ get_or es i e → x ≡ stored_entry e → Some x ≡ slice_get (map stored_entry es) i
-shown_at es i e x within here same =
-    ap (λ y. Some y) (same ∙ ap stored_entry here ∙ sym (get_or-map stored_entry es i e x within)) ∙
-    sym (slice_get-get_or (map stored_entry es) i x (omega (arith, length-map es stored_entry)))
 
 -- ## A flush
 
