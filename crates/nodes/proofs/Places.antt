@@ -1,11 +1,14 @@
 -- The front of a list of fixed length: one more at its end, one replaced, one taken out.
 use Rattle.std.proofs.Common.{◌≡◌, ℕ, suc, ◌+◌, ◌-◌, ◌<◌, ◌≤◌, min, Bool, true, false, cond, eqb, ltb, leb, List, [], ◌∷◌, ◌++◌, map, length, get_or, take, drop, set, Some, None, Option, sym, refl, ap, ◌∙◌, ap₂, ⊎_elim, arith}
 use lib.Seq.{paste, take-paste, take-set-lt, take-set-le, set_out}
-use Rattle.std.specs.List.{remove}
-use Rattle.std.proofs.lemmas.Bool.{lt-leb, cases_lt, ltb-true}
-use Rattle.std.proofs.lemmas.List.{length-take, length-drop, take_all, take-take, drop_all, drop-take, take_more_set, append-nil, take-map, drop-map, map-append, length-map, get_or-map}
-use Rattle.model.specs.Lists.{place, place_in, stands}
-use Rattle.nodes.specs.Tables.{found_in}
+use Rattle.std.specs.List.{remove, slice_get}
+use Rattle.std.specs.Option.{option_map}
+use Rattle.std.proofs.lemmas.Bool.{lt-leb, cases_lt, lt-ltb, le-ltb, cond-true, cond-false}
+use Rattle.std.proofs.lemmas.Option.{slice_get-get_or, slice_get_past, slice_get-map}
+use Rattle.std.proofs.lemmas.List.{length-take, length-drop, take_all, take-take, drop_all, drop-take, take_more_set, append-nil, take-map, drop-map, map-append, length-map}
+use Rattle.model.specs.Lists.{place, place_in}
+use Rattle.nodes.specs.Standing.{found}
+use Rattle.nodes.specs.Tables.{placed, found_in}
 
 module _ {X : Type 0} (xs : List X) (n : ℕ) where
   pub front_capped : (m : ℕ) → m ≡ min n (length xs) → take m xs ≡ take n xs
@@ -67,31 +70,25 @@ place_in_map f number n xs =
 
 -- ## Looking up by number
 
-module _ {X Y : Type 0} (f : X → Y) (number : Y → ℕ) (none : Y) (n : ℕ) (xs : List X) where
-  found_parts : (p : ℕ) (b : Bool) (k : ℕ) → Some p ≡ cond b (Some k) None → (b ≡ true) × (p ≡ k)
-  found_parts p true k e = (refl, cc)
-  found_parts p false k e = let z : ◌≡◌ {A = ℕ} 0 1 = cc in absurd (omega arith)
+abbrev with_place : {X : Type 0} → ℕ → X → ℕ × X
+with_place k x = (k, x)
 
-  pub got_found : (p : ℕ) (d : X) → Some p ≡ place_in number n (map f xs) → p < length xs
-      → ◌≡◌ {A = Option (ℕ × Y)} (Some (p, f (get_or xs p d))) (found_in number none n (map f xs))
-  got_found p d e l =
-      let parts = found_parts p (stands number n (map f xs)) (place number n (map f xs)) e in
-      let long = length-map xs f in
-      let same : f (get_or xs p d) ≡ get_or (map f xs) p none = sym (get_or-map f xs p d none l) in
-      ap₂ with_place parts.1 (same ∙ ap (λ k. get_or (map f xs) k none) parts.1) ∙ sym (ap (λ b. cond b (Some (place number n (map f xs), get_or (map f xs) (place number n (map f xs)) none)) None) parts.0)
-    where
-      with_place : ℕ → Y → Option (ℕ × Y)
-      with_place k y = Some (k, y)
+fused : {X Y : Type 0} (f : X → Y) (k : ℕ) (o : Option X) → option_map (placed f) (option_map (with_place k) o) ≡ option_map (with_place k) (option_map f o)
+fused f k None = refl
+fused f k (Some x) = refl
 
-  pub got_past : (p : ℕ) → Some p ≡ place_in number n (map f xs) → length xs ≤ p → ⊥
-  got_past p e l =
-      let parts = found_parts p (stands number n (map f xs)) (place number n (map f xs)) e in
-      let here = ltb-true (place number n (map f xs)) (length (map f xs)) parts.0 in
-      omega (arith, length-map xs f, parts.1)
+at_place : {Y : Type 0} (ys : List Y) (k : ℕ) (none : Y) → option_map (with_place k) (slice_get ys k) ≡ cond (ltb k (length ys)) (Some (with_place k (get_or ys k none))) None
+at_place ys k none =
+    ⊎_elim (λ (l : k < length ys). ap (option_map (with_place k)) (slice_get-get_or ys k none l) ∙ sym (cond-true _ _ _ (lt-ltb k (length ys) l)))
+    (λ (l : length ys ≤ k). ap (option_map (with_place k)) (slice_get_past ys k l) ∙ sym (cond-false _ _ _ (le-ltb k (length ys) l)))
+    (cases_lt k (length ys))
 
-  pub got_none : None ≡ place_in number n (map f xs) → None ≡ found_in number none n (map f xs)
-  got_none e = go (stands number n (map f xs)) e
-    where
-      go : (b : Bool) → None ≡ cond b (Some (place number n (map f xs))) None → ◌≡◌ {A = Option (ℕ × Y)} None (cond b (Some (place number n (map f xs), get_or (map f xs) (place number n (map f xs)) none)) None)
-      go true h = let z : ◌≡◌ {A = ℕ} 0 1 = cc in absurd (omega arith)
-      go false h = refl
+-- the record that is found stands for the element that is found, at the same place
+pub found_meaning : {X Y : Type 0} (f : X → Y) (number : Y → ℕ) (none : Y) (n : ℕ) (xs : List X)
+    → option_map (placed f) (found (λ x. number (f x)) n xs) ≡ found_in number none n (map f xs)
+found_meaning f number none n xs =
+    let p = place number n (map f xs) in
+    ap (λ k. option_map (placed f) (option_map (with_place k) (slice_get xs k))) (sym (place_map f number n xs))
+    ∙ fused f p (slice_get xs p)
+    ∙ ap (option_map (with_place p)) (sym (slice_get-map f xs p))
+    ∙ at_place (map f xs) p none

@@ -25,10 +25,7 @@ fn matches_at<M: Memory>(memory: &M, address: u16, wanted: &[u8]) -> bool
 {
     let mut buffer = [0; 16];
     let found = &mut buffer[0..wanted.len()];
-    match memory.read(address as usize, found) {
-        Ok(()) => *found == *wanted,
-        Err(_) => false,
-    }
+    memory.read(address as usize, found).is_ok() && *found == *wanted
 }
 
 /// Whether a comparison is true; another item asks nothing.
@@ -84,9 +81,8 @@ pub(crate) fn put_items<M: Memory>(
     ensures { (j : Log) → Made budget.old.left (puts selection (items_meaning items.entry)) (both (M.bytes memory.old) j) (M.durable memory.old) budget.new.left (both (M.bytes memory.new) j) (M.durable memory.new) }
 {
     for item in items {
-        if !selection.takes(&item) {
-            continue;
+        if selection.takes(&item) {
+            put_counted(memory, &item, budget);
         }
-        put_counted(memory, &item, budget);
     }
 }

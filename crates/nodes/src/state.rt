@@ -4,8 +4,9 @@ ghost use Rattle.std.specs.Prelude.{◌≡◌};
 ghost use Rattle.model.specs.Node.{nothing_but};
 ghost use Rattle.nodes.specs.Nodes.{volatile_meaning};
 
-use crate::doubts::Doubts;
-use crate::unresolved::UnresolvedTable;
+use crate::doubts::{Doubt, Doubts};
+use crate::table::Table;
+use crate::unresolved::{Unresolved, UnresolvedTable};
 use journal::journal::Journal;
 use memory::Memory;
 use model::condition::Condition;
@@ -31,8 +32,8 @@ impl Volatile {
     {
         Volatile {
             condition,
-            doubts: Doubts::none(),
-            unresolved: UnresolvedTable::none(),
+            doubts: Table::none(Doubt::VACANT),
+            unresolved: Table::none(Unresolved::VACANT),
             acknowledged: [false; MOST_NODES],
         }
     }
