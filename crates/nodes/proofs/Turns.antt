@@ -1,15 +1,7 @@
 -- One turn of a loop over a list: what tests, filters and joins over the list make of its first element.
-use Rattle.std.proofs.Common.{◌≡◌, Bool, true, false, cond, ◌&&◌, ◌||◌, List, [], ◌∷◌, ◌++◌, map, sym, refl, ap, ◌∙◌}
-use Rattle.std.specs.List.{list_any}
+use Rattle.std.proofs.Common.{◌≡◌, Bool, cond, ◌&&◌, ◌||◌, List, [], ◌∷◌, ◌++◌, map, refl, ap}
+use Rattle.std.specs.List.{list_any, list_all}
 use Rattle.model.specs.Lists.{some, every, only, joined_by}
-
-pub every_none : {X : Type 0} (t : X → Bool) → every t [] ≡ true
-unfolding every
-every_none t = refl
-
-pub every_more : {X : Type 0} (t : X → Bool) (x : X) (xs : List X) → every t (x ∷ xs) ≡ (t x && every t xs)
-unfolding every
-every_more t x xs = refl
 
 pub only_none : {X : Type 0} (t : X → Bool) → only t [] ≡ []
 unfolding only
@@ -27,7 +19,7 @@ pub joined_more : {X Y : Type 0} (f : X → List Y) (x : X) (xs : List X) → jo
 unfolding joined_by
 joined_more f x xs = refl
 
--- ## A search
+-- ## A test over a list
 
 pub list_any-some : {X : Type 0} (t : X → Bool) (xs : List X) → list_any t xs ≡ some t xs
 unfolding some
@@ -40,13 +32,7 @@ unfolding some
 list_any-map f t [] = refl
 list_any-map f t (x ∷ xs) = ap (λ b. t (f x) || b) (list_any-map f t xs)
 
--- ## A test of each
-
-pub every_miss : {X : Type 0} (t : X → Bool) (x : X) (xs ys all : List X) → xs ≡ x ∷ ys → every t xs ≡ every t all → t x ≡ false → false ≡ every t all
-every_miss t x xs ys all e h p = sym (ap (λ b. b && every t ys) p) ∙ sym (every_more t x ys) ∙ sym (ap (every t) e) ∙ h
-
-pub every_pass : {X : Type 0} (t : X → Bool) (x : X) (xs ys all : List X) → xs ≡ x ∷ ys → every t xs ≡ every t all → t x ≡ true → every t ys ≡ every t all
-every_pass t x xs ys all e h p = sym (ap (λ b. b && every t ys) p) ∙ sym (every_more t x ys) ∙ sym (ap (every t) e) ∙ h
-
-pub every_end : {X : Type 0} (t : X → Bool) (xs all : List X) → xs ≡ [] → every t xs ≡ every t all → true ≡ every t all
-every_end t xs all e h = sym (every_none t) ∙ sym (ap (every t) e) ∙ h
+pub list_all-every : {X : Type 0} (t : X → Bool) (xs : List X) → list_all t xs ≡ every t xs
+unfolding every
+list_all-every t [] = refl
+list_all-every t (x ∷ xs) = ap (λ b. t x && b) (list_all-every t xs)

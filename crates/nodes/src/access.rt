@@ -40,15 +40,10 @@ fn holds<M: Memory>(memory: &M, item: &Item<'_>) -> bool
 }
 
 /// Whether every comparison is true.
-pub(crate) fn all_hold<M: Memory>(memory: &M, items: Items<'_>) -> bool
+pub(crate) fn all_hold<M: Memory>(memory: &M, mut items: Items<'_>) -> bool
     ensures { result ≡ all_hold (M.bytes memory.now) (items_meaning items.entry) }
 {
-    for item in items {
-        if !holds(memory, &item) {
-            return false;
-        }
-    }
-    true
+    items.all(|item| holds(memory, &item))
 }
 
 /// Writes a write item. One that passes the end of the memory is refused by it and alters nothing;

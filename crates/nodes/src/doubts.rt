@@ -8,7 +8,7 @@ ghost use Rattle.records.specs.Cursor.{items_meaning};
 ghost use Rattle.nodes.specs.Tables.{doubts_meaning};
 
 use crate::locks::lists_clash;
-use crate::table::Table;
+use crate::table::{Record, Table};
 use journal::search::Numbered;
 use records::item_set::{ITEM_SET_BYTES, ItemSet};
 use records::items::Items;
@@ -33,9 +33,8 @@ impl Numbered for Doubt {
     }
 }
 
-impl Doubt {
-    /// A record that says nothing.
-    pub(crate) const VACANT: Doubt = Doubt {
+impl Record for Doubt {
+    const VACANT: Doubt = Doubt {
         tid: 0,
         participants: 0,
         items: ItemSet {

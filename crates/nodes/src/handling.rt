@@ -54,7 +54,8 @@ impl<M: Memory, J: Journal> Node<M, J> {
 
     /// A settled message: its sender has the oldest entry durably applied.
     pub(crate) fn acknowledge(&mut self, tid: u16, sender: Party)
-        ensures stores { (self.new.memory ≡ self.old.memory) × (self.new.journal ≡ self.old.journal) }
+        ensures memory { self.new.memory ≡ self.old.memory }
+        ensures journal { self.new.journal ≡ self.old.journal }
         ensures volatile { volatile_meaning self.new.volatile ≡ (acknowledging (node_meaning M.bytes J.log self.old) tid sender).volatile }
     {
         if !self.is_oldest(tid) {
@@ -67,7 +68,8 @@ impl<M: Memory, J: Journal> Node<M, J> {
 
     /// A reply while recovering: it may resolve an entry without outcome.
     pub(crate) fn hear_reply(&mut self, reply: Envelope, stands: bool)
-        ensures stores { (self.new.memory ≡ self.old.memory) × (self.new.journal ≡ self.old.journal) }
+        ensures memory { self.new.memory ≡ self.old.memory }
+        ensures journal { self.new.journal ≡ self.old.journal }
         ensures volatile { volatile_meaning self.new.volatile ≡ (replied reply.me (node_meaning M.bytes J.log self.old) reply.tid reply.sender stands).volatile }
     {
         let Some((place, found)) = self.volatile.unresolved.get(reply.tid) else {

@@ -4,9 +4,8 @@ ghost use Rattle.std.specs.Prelude.{◌≡◌};
 ghost use Rattle.model.specs.Node.{nothing_but};
 ghost use Rattle.nodes.specs.Nodes.{volatile_meaning};
 
-use crate::doubts::{Doubt, Doubts};
-use crate::table::Table;
-use crate::unresolved::{Unresolved, UnresolvedTable};
+use crate::doubts::Doubts;
+use crate::unresolved::UnresolvedTable;
 use journal::journal::Journal;
 use memory::Memory;
 use model::condition::Condition;
@@ -32,8 +31,8 @@ impl Volatile {
     {
         Volatile {
             condition,
-            doubts: Table::none(Doubt::VACANT),
-            unresolved: Table::none(Unresolved::VACANT),
+            doubts: Doubts::none(),
+            unresolved: UnresolvedTable::none(),
             acknowledged: [false; MOST_NODES],
         }
     }

@@ -9,23 +9,30 @@ ghost use Rattle.nodes.specs.Standing.{standing, found};
 use journal::search::{Numbered, find};
 use model::numbers::MOST_ENTRIES;
 
+/// What a table has records of.
+pub trait Record: Numbered + Copy {
+    /// A record that says nothing.
+    const VACANT: Self;
+}
+
 /// Records in the order in which they were added: a place for each entry that a journal can have.
+// An array with a count: the tables of nodes are of fixed size, without a heap, and copied freely as an ArrayVec is not.
 #[derive(Clone, Copy)]
-pub struct Table<T: Copy> {
+pub struct Table<T: Record> {
     /// How many there are.
     pub count: usize,
     /// Those, then others that say nothing.
     pub records: [T; MOST_ENTRIES],
 }
 
-impl<T: Copy> Table<T> {
-    /// A table in which nothing stands, given a record that says nothing.
-    pub fn none(vacant: T) -> Table<T>
+impl<T: Record> Table<T> {
+    /// A table in which nothing stands.
+    pub fn none() -> Table<T>
         ensures { standing result ≡ [] }
     {
         Table {
             count: 0,
-            records: [vacant; MOST_ENTRIES],
+            records: [T::VACANT; MOST_ENTRIES],
         }
     }
 
@@ -35,8 +42,7 @@ impl<T: Copy> Table<T> {
         ensures bound { result ≤ length self.now.records }
         ensures front { take result self.now.records ≡ standing self.now }
     {
-        let all = &self.records[..];
-        self.count.min(all.len())
+        self.count.min(self.records.len())
     }
 
     /// The records that stand.
@@ -76,9 +82,7 @@ impl<T: Copy> Table<T> {
             self.count = count - 1;
         }
     }
-}
 
-impl<T: Copy + Numbered> Table<T> {
     /// The place of the first record of a tid, if one stands.
     pub fn find(&self, tid: u16) -> Option<usize>
         ensures { result ≡ place_in T.numbered tid (standing self.now) }

@@ -7,7 +7,7 @@ ghost use Rattle.model.specs.Handling.{agreed_by, heard as hearing};
 ghost use Rattle.nodes.specs.Tables.{unresolved_meaning, unresolveds_meaning};
 
 use crate::flags::mark_node;
-use crate::table::Table;
+use crate::table::{Record, Table};
 use journal::search::Numbered;
 use model::numbers::MOST_NODES;
 use model::participants::every_other;
@@ -35,15 +35,16 @@ impl Numbered for Unresolved {
     }
 }
 
-impl Unresolved {
-    /// A record that says nothing.
-    pub(crate) const VACANT: Unresolved = Unresolved {
+impl Record for Unresolved {
+    const VACANT: Unresolved = Unresolved {
         tid: 0,
         participants: 0,
         agreed: [false; MOST_NODES],
         resolution: None,
     };
+}
 
+impl Unresolved {
     /// Whether it is not resolved yet.
     pub fn is_open(&self) -> bool
         ensures { result ≡ not (is_some self.now.resolution) }
