@@ -21,14 +21,6 @@ unfolding place
 place_stored n [] = refl
 place_stored n (e ∷ es) = ap (λ k. cond (eqb e.promise.tid n) 0 (suc k)) (place_stored n es)
 
-found_parts : (b : Bool) (i k : ℕ) → Some i ≡ cond b (Some k) None → (b ≡ true) × (i ≡ k)
-found_parts true i k e = (refl, cc)
-found_parts false i k e = let z : ◌≡◌ {A = ℕ} 0 1 = cc in absurd (omega arith)
-
-missed : (b : Bool) (k : ℕ) → None ≡ cond b (Some k) None → b ≡ false
-missed true k e = let z : ◌≡◌ {A = ℕ} 0 1 = cc in absurd (omega arith)
-missed false k e = refl
-
 stands_stored : (n : ℕ) (es : List Entry) → stands tid_of n (map stored_entry es) ≡ stands tid_in n es
 stands_stored n es = ap₂ ltb (place_stored n es) (length-map es stored_entry)
 
@@ -40,7 +32,8 @@ pub noted_missing :
     (stands tid_of tid (map stored_entry es) ≡ false) ×
     (map stored_entry es ≡ set (map stored_entry es) (place tid_of tid (map stored_entry es)) x)
 noted_missing es tid x e =
-    let none : stands tid_of tid (map stored_entry es) ≡ false = stands_stored tid es ∙ missed _ _ e
+    let none_stands : stands tid_in tid es ≡ false = grind arith
+    in let none : stands tid_of tid (map stored_entry es) ≡ false = stands_stored tid es ∙ none_stands
     in (none, sym (set_past (map stored_entry es) _ x (ltb-false _ _ none)))
 
 pub noted_found :
@@ -52,13 +45,14 @@ pub noted_found :
     (map stored_entry (set es i x) ≡
     set (map stored_entry es) (place tid_of tid (map stored_entry es)) (with_outcome (get_or (map stored_entry es) (place tid_of tid (map stored_entry es)) no_entry) o))
 noted_found es tid i e x o found here new =
-    let parts = found_parts (stands tid_in tid es) i (place tid_in tid es) found
-    in let same : i ≡ place tid_of tid (map stored_entry es) = parts.1 ∙ sym (place_stored tid es)
-    in let within : i < length es = omega (arith, ltb-true _ _ parts.0, parts.1)
+    let here_stands : stands tid_in tid es ≡ true = grind arith
+    in let at : i ≡ place tid_in tid es = grind arith
+    in let same : i ≡ place tid_of tid (map stored_entry es) = at ∙ sym (place_stored tid es)
+    in let within : i < length es = omega (arith, ltb-true _ _ here_stands, at)
     in let was : stored_entry e ≡ get_or (map stored_entry es) (place tid_of tid (map stored_entry es)) no_entry =
     ap stored_entry here ∙ sym (get_or-map stored_entry es i e no_entry within) ∙ ap (λ k. get_or (map stored_entry es) k no_entry) same
     in (
-      stands_stored tid es ∙ parts.0,
+      stands_stored tid es ∙ here_stands,
       map-set stored_entry es i x ∙ ap₂ (λ k y. set (map stored_entry es) k y) same (new ∙ ap (λ y. with_outcome y o) was),
     )
 
