@@ -176,20 +176,19 @@ fn an_entry_keeps_the_writes_of_its_list(rt: HostRuntime) -> Result<(), Fail> {
         return Err(Fail::new("there is no entry"));
     };
     let mut items = entry.writes;
-    match items.next_item() {
-        Some(
-            Item::Write {
-                node,
-                address,
-                data,
-            },
-        ) => {
-            assert_eq!(rt; node, 0);
-            assert_eq!(rt; address, 5);
-            assert_eq!(rt; data, [0x18].as_slice());
-        }
-        _ => return Err(Fail::new("no write item")),
-    }
+    let Some(
+        Item::Write {
+            node,
+            address,
+            data,
+        },
+    ) = items.next_item()
+    else {
+        return Err(Fail::new("no write item"));
+    };
+    assert_eq!(rt; node, 0);
+    assert_eq!(rt; address, 5);
+    assert_eq!(rt; data, [0x18].as_slice());
     assert!(rt; items.next_item().is_none());
     Ok(())
 }
