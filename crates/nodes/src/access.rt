@@ -14,6 +14,7 @@ ghost use Rattle.records.specs.Cursor.{items_meaning};
 
 use crate::budget::Budget;
 use memory::Memory;
+use model::numbers::LONGEST_ITEM;
 use records::item::Item;
 use records::item_set::Selection;
 use records::items::Items;
@@ -23,8 +24,8 @@ fn matches_at<M: Memory>(memory: &M, address: u16, wanted: &[u8]) -> bool
     requires { length wanted.now ≤ longest_item }
     ensures { result ≡ matches_at (M.bytes memory.now) address wanted.now }
 {
-    let mut buffer = [0; 16];
-    let found = &mut buffer[0..wanted.len()];
+    let mut buffer = [0; LONGEST_ITEM as usize];
+    let found = &mut buffer[..wanted.len()];
     memory.read(address as usize, found).is_ok() && *found == *wanted
 }
 

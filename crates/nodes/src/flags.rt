@@ -8,6 +8,7 @@ use model::numbers::MOST_NODES;
 pub(crate) fn mark_node(flags: &mut [bool; MOST_NODES], node: u16)
     ensures { flags.new ≡ slice_set flags.old node true }
 {
+    // A test in place of get_mut, whose contract does not say what the array is once the flag is written: no proof closed.
     let place = node as usize;
     if place < MOST_NODES {
         flags[place] = true;
