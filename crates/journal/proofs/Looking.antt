@@ -1,17 +1,19 @@
--- The search by tid over the entries that a journal shows.
-use Rattle.std.proofs.Common.{◌≡◌, ℕ, ◌+◌, ◌<◌, true, cond, ltb, List, [], ◌∷◌, length, get_or, drop, Some, None, sym, ap, ◌∙◌, arith}
+-- The search by number, and by tid over the entries that a journal shows.
+use Rattle.std.proofs.Common.{◌≡◌, ℕ, ◌+◌, ◌<◌, true, cond, eqb, ltb, List, ◌∷◌, length, get_or, drop, Some, None, sym, refl, ap, ◌∙◌, arith}
 use Rattle.std.proofs.lemmas.List.{drop_more}
+use Rattle.std.proofs.lemmas.List.Recursion.{is_position_or_len}
 use Rattle.std.proofs.lemmas.Option.{slice_get-get_or}
 use Rattle.std.proofs.lemmas.Bool.{cond-true, lt-ltb, ltb-true}
-use Rattle.std.specs.List.{slice_get}
-use Rattle.model.specs.Lists.{place}
+use Rattle.std.specs.List.{slice_get, position}
+use Rattle.model.specs.Lists.{place, place_in}
 use Rattle.model.specs.Journal.{Journal as Log, Entry as PlainEntry, tid_of, no_entry, has_entry, entry_of}
 use Rattle.model.proofs.Searching.{place_here, place_more}
 
-pub nth_stands : {X : Type 0} (xs : List X) (k i : ℕ) → k ≡ i → i < length xs → None ≡ slice_get xs k → ⊥
-nth_stands [] k i e h n = omega arith
-nth_stands (x ∷ xs) k i e h n =
-    let there = slice_get-get_or (x ∷ xs) k x (omega arith) in let z : ◌≡◌ {A = ℕ} 0 1 = cc in omega arith
+pub place_in-position : {X : Type 0} (number : X → ℕ) (n : ℕ) (xs : List X) → place_in number n xs ≡ position (λ x. eqb (number x) n) xs
+unfolding place
+place_in-position number n xs =
+    ap (λ k. cond (ltb k (length xs)) (Some k) None)
+    (is_position_or_len (place number n) (λ x. eqb (number x) n) refl (λ x ys. ap (λ k. cond (eqb (number x) n) 0 k) (omega arith)) xs)
 
 nth_first :
     {X : Type 0} (xs : List X) (k i : ℕ) (x : X) →

@@ -1,9 +1,7 @@
 -- What is kept in a table, and what the journal shows of it.
-use Rattle.std.proofs.Common.{◌≡◌, ℕ, suc, ◌<◌, Bool, true, false, cond, eqb, ltb, ◌⊎◌, List, [], ◌∷◌, map, length, get_or, drop, set, Some, None, Option, sym, refl, ap, ◌∙◌, ap₂, inl, inr, arith}
+use Rattle.std.proofs.Common.{◌≡◌, ℕ, suc, ◌<◌, Bool, true, false, cond, eqb, ltb, ◌⊎◌, List, [], ◌∷◌, map, length, get_or, set, Some, None, Option, sym, refl, ap, ◌∙◌, ap₂, inl, inr, arith}
 use Rattle.std.proofs.lemmas.List.{length-map, map-set, get_or-map, set_past}
-use Rattle.std.proofs.lemmas.Option.{slice_get-get_or}
 use Rattle.std.proofs.lemmas.Bool.{ltb-true, ltb-false}
-use Rattle.std.specs.List.{slice_get}
 use Rattle.std.specs.Option.{option_map}
 use Rattle.model.specs.declared.outcome.Outcome.{Outcome}
 use Rattle.model.specs.Lists.{place, place_in, stands}
@@ -14,22 +12,14 @@ use Rattle.journal.specs.Entries.{stored_entry, durable_entry, durable_outcome}
 use Rattle.journal.specs.Restarts.{if_durable, only_durable}
 
 abbrev tid_in : Entry → ℕ
-tid_in e = e.tid
+tid_in e = e.promise.tid
 
 -- ## The search by tid
 
 pub place_stored : (n : ℕ) (es : List Entry) → place tid_of n (map stored_entry es) ≡ place tid_in n es
 unfolding place
 place_stored n [] = refl
-place_stored n (e ∷ es) = ap (λ k. cond (eqb e.tid n) 0 (suc k)) (place_stored n es)
-
-found_parts : (b : Bool) (i k : ℕ) → Some i ≡ cond b (Some k) None → (b ≡ true) × (i ≡ k)
-found_parts true i k e = (refl, cc)
-found_parts false i k e = let z : ◌≡◌ {A = ℕ} 0 1 = cc in absurd (omega arith)
-
-missed : (b : Bool) (k : ℕ) → None ≡ cond b (Some k) None → b ≡ false
-missed true k e = let z : ◌≡◌ {A = ℕ} 0 1 = cc in absurd (omega arith)
-missed false k e = refl
+place_stored n (e ∷ es) = ap (λ k. cond (eqb e.promise.tid n) 0 (suc k)) (place_stored n es)
 
 stands_stored : (n : ℕ) (es : List Entry) → stands tid_of n (map stored_entry es) ≡ stands tid_in n es
 stands_stored n es = ap₂ ltb (place_stored n es) (length-map es stored_entry)
@@ -42,7 +32,8 @@ pub noted_missing :
     (stands tid_of tid (map stored_entry es) ≡ false) ×
     (map stored_entry es ≡ set (map stored_entry es) (place tid_of tid (map stored_entry es)) x)
 noted_missing es tid x e =
-    let none : stands tid_of tid (map stored_entry es) ≡ false = stands_stored tid es ∙ missed _ _ e
+    let none_stands : stands tid_in tid es ≡ false = grind arith
+    in let none : stands tid_of tid (map stored_entry es) ≡ false = stands_stored tid es ∙ none_stands
     in (none, sym (set_past (map stored_entry es) _ x (ltb-false _ _ none)))
 
 pub noted_found :
@@ -54,30 +45,16 @@ pub noted_found :
     (map stored_entry (set es i x) ≡
     set (map stored_entry es) (place tid_of tid (map stored_entry es)) (with_outcome (get_or (map stored_entry es) (place tid_of tid (map stored_entry es)) no_entry) o))
 noted_found es tid i e x o found here new =
-    let parts = found_parts (stands tid_in tid es) i (place tid_in tid es) found
-    in let same : i ≡ place tid_of tid (map stored_entry es) = parts.1 ∙ sym (place_stored tid es)
-    in let within : i < length es = omega (arith, ltb-true _ _ parts.0, parts.1)
+    let here_stands : stands tid_in tid es ≡ true = grind arith
+    in let at : i ≡ place tid_in tid es = grind arith
+    in let same : i ≡ place tid_of tid (map stored_entry es) = at ∙ sym (place_stored tid es)
+    in let within : i < length es = omega (arith, ltb-true _ _ here_stands, at)
     in let was : stored_entry e ≡ get_or (map stored_entry es) (place tid_of tid (map stored_entry es)) no_entry =
     ap stored_entry here ∙ sym (get_or-map stored_entry es i e no_entry within) ∙ ap (λ k. get_or (map stored_entry es) k no_entry) same
     in (
-      stands_stored tid es ∙ parts.0,
+      stands_stored tid es ∙ here_stands,
       map-set stored_entry es i x ∙ ap₂ (λ k y. set (map stored_entry es) k y) same (new ∙ ap (λ y. with_outcome y o) was),
     )
-
--- ## The oldest entry, and any other
-
-pub dropped_none :
-    (es : List Entry) →
-    length es ≡ 0 → (eqb (length (map stored_entry es)) 0 ≡ true) × (map stored_entry es ≡ drop 1 (map stored_entry es))
-dropped_none [] h = (refl, refl)
-dropped_none (e ∷ es) h = absurd (omega arith)
-
-pub shown_at :
-    (es : List Entry) (i : ℕ) (e : Entry) (x : PlainEntry) →
-    i < length es → e ≡ get_or es i e → x ≡ stored_entry e → Some x ≡ slice_get (map stored_entry es) i
-shown_at es i e x within here same =
-    ap (λ y. Some y) (same ∙ ap stored_entry here ∙ sym (get_or-map stored_entry es i e x within)) ∙
-    sym (slice_get-get_or (map stored_entry es) i x (omega (arith, length-map es stored_entry)))
 
 -- ## A flush
 

@@ -1,4 +1,3 @@
-pub mod WriteSets
 pub mod Entries
 pub mod Tables
 pub mod Restarts

@@ -3,9 +3,9 @@
 ghost use Rattle.std.specs.Prelude.{◌≡◌};
 ghost use Rattle.journal.specs.Entries.{entry_meaning, stored_entry, durable_entry};
 
+use crate::promise::Promise;
 use crate::search::Numbered;
 use crate::view::EntryView;
-use crate::write_set::WriteSet;
 use model::outcome::Outcome;
 
 /// A yes vote with what it promised, of the same size whatever it holds.
@@ -13,22 +13,18 @@ use model::outcome::Outcome;
 pub struct Entry {
     /// The entry's number in its journal.
     pub running: u16,
-    /// The minitransaction that was voted on.
-    pub tid: u16,
-    /// The nodes that take part, as bits, node 0 the lowest.
-    pub participants: u8,
-    /// The items to write if it is committed.
-    pub writes: WriteSet,
+    /// What was promised.
+    pub promise: Promise,
     /// Whether it was committed or aborted, if that is known.
     pub outcome: Option<Outcome>,
 }
 
 /// An entry is looked up by its tid.
 impl Numbered for Entry {
-    ghost numbered = { λ e. e.tid };
+    ghost numbered = { λ e. e.promise.tid };
 
     fn number(&self) -> u16 {
-        self.tid
+        self.promise.tid
     }
 }
 
@@ -39,10 +35,10 @@ impl Entry {
     {
         EntryView {
             running: self.running,
-            tid: self.tid,
-            participants: self.participants,
+            tid: self.promise.tid,
+            participants: self.promise.participants,
             outcome: self.outcome,
-            writes: self.writes.items(),
+            writes: self.promise.writes.items(),
         }
     }
 
@@ -50,13 +46,13 @@ impl Entry {
     pub(crate) fn made_durable(self, keeps_pending: bool) -> Entry
         ensures { result ≡ durable_entry keeps_pending self }
     {
-        let outcome = match self.outcome {
-            Some(outcome) if keeps_pending || outcome.durable => Some(Outcome {
-                commits: outcome.commits,
+        let outcome = self
+            .outcome
+            .filter(|outcome| keeps_pending || outcome.durable)
+            .map(|outcome| Outcome {
                 durable: true,
-            }),
-            _ => None,
-        };
+                ..outcome
+            });
         Entry { outcome, ..self }
     }
 }

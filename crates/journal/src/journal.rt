@@ -4,13 +4,13 @@ ghost use Rattle.std.specs.Prelude.{◌≡◌, ℕ, not, ◌&&◌, length, is_so
 ghost use Rattle.std.specs.Option.{option_map};
 ghost use Rattle.std.specs.List.{slice_get};
 ghost use Rattle.model.specs.declared.refusal.Refusal.TheVariants.{NoRoom, NotReady};
-ghost use Rattle.model.specs.Journal.{Journal as Log, is_full, is_forced, is_forced_full, is_as_made, is_empty, has_entry, added, noted, forced_in, dropped, flushed, pointed};
-ghost use Rattle.journal.specs.Entries.{entry_meaning};
+ghost use Rattle.model.specs.Journal.{Journal as Log, is_full, is_forced, is_forced_full, is_as_made, is_empty, has_entry, noted, forced_in, dropped, flushed, pointed};
+ghost use Rattle.journal.specs.Entries.{entry_meaning, promised};
 ghost use Rattle.journal.specs.Restarts.{Restarted};
-ghost use Rattle.journal.specs.WriteSets.{writes_of};
 
+use crate::promise::Promise;
 use crate::view::EntryView;
-use crate::write_set::WriteSet;
+use model::numbers::MOST_ENTRIES;
 use model::refusal::Refusal;
 
 /// Entries in order with their outcomes, forced aborts, and a checkpoint pointer.
@@ -34,7 +34,14 @@ pub trait Journal {
 
     /// Whether the journal is as it was made, and of a size that suffices.
     fn as_made(&self) -> bool
-        ensures { result ≡ is_as_made (log self.now) };
+        ensures { result ≡ is_as_made (log self.now) }
+    {
+        self.count() == 0
+            && self.forced_count() == 0
+            && self.pointer() == 0
+            && self.highest() == 0
+            && (1..=MOST_ENTRIES).contains(&self.places())
+    }
 
     /// How many entries stand.
     fn count(&self) -> usize
@@ -67,11 +74,11 @@ pub trait Journal {
 
     /// Adds an entry without outcome, with the next running number, and gives its place;
     /// refused where the journal is full.
-    fn add(&mut self, tid: u16, participants: u8, writes: &WriteSet) -> Result<Self::Place, Refusal>
+    fn add(&mut self, promise: &Promise) -> Result<Self::Place, Refusal>
         ensures answer { is_ok result ≡ not (is_full (log self.old)) }
         ensures refusal { IfErr result (λ e. e ≡ NoRoom) }
         ensures place { IfOk result (λ p. position self.new p ≡ length (log self.old).entries) }
-        ensures log { log self.new ≡ added (log self.old) tid participants (writes_of writes.now) };
+        ensures log { log self.new ≡ promised (log self.old) promise.now };
 
     /// Notes how the minitransaction of an entry ended; the outcome is pending until the next flush.
     fn note(&mut self, tid: u16, commits: bool) -> Result<(), Refusal>

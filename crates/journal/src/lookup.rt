@@ -14,14 +14,10 @@ pub fn place_of<J: Journal>(journal: &J, tid: u16) -> Option<J::Place>
     ensures stands { is_some result ≡ has_entry (J.log journal.now) tid }
     ensures place { IfSome result (λ p. J.position journal.now p ≡ place tid_of tid (J.log journal.now).entries) }
 {
+    // By index: a journal gives a place for an index, and has no list of its entries to iterate over.
     for index in 0..journal.count() {
-        let Some(place) = journal.place(index) else {
-            return None;
-        };
-        let Some(entry) = journal.entry(place) else {
-            return None;
-        };
-        if entry.tid == tid {
+        let place = journal.place(index)?;
+        if journal.entry(place)?.tid == tid {
             return Some(place);
         }
     }
@@ -32,8 +28,5 @@ pub fn place_of<J: Journal>(journal: &J, tid: u16) -> Option<J::Place>
 pub fn entry_of<'a, J: Journal>(journal: &'a J, tid: u16) -> Option<EntryView<'a>>
     ensures { option_map entry_meaning result ≡ (if has_entry (J.log journal.now) tid then Some (entry_of (J.log journal.now) tid) else None) }
 {
-    match place_of(journal, tid) {
-        Some(place) => journal.entry(place),
-        None => None,
-    }
+    journal.entry(place_of(journal, tid)?)
 }

@@ -26,10 +26,7 @@ impl Numbered for u16 {
 pub fn find<T: Numbered>(elements: &[T], wanted: u16) -> Option<usize>
     ensures { result ≡ place_in T.numbered wanted elements.now }
 {
-    for (place, element) in elements.iter().enumerate() {
-        if element.number() == wanted {
-            return Some(place);
-        }
-    }
-    None
+    elements
+        .iter()
+        .position(|element| element.number() == wanted)
 }

@@ -1,21 +1,22 @@
 //! A journal in tables of fixed size.
 
 ghost use Rattle.std.specs.Prelude.{◌≡◌, ◌<◌, ◌≤◌, map, vec_capacity};
-ghost use Rattle.model.specs.Journal.{empty_journal, pending, restarted};
+ghost use Rattle.model.specs.Journal.{Journal as Log, empty_journal, pending, restarted};
 ghost use Rattle.model.specs.Numbers.{most_forced};
-ghost use Rattle.journal.specs.Entries.{stored_entry, durable_entry};
+ghost use Rattle.journal.specs.Entries.{durable_entry};
 ghost use Rattle.journal.specs.Tables.{table_log, usable};
 ghost use Rattle.journal.specs.Restarts.{Restarted, only_durable};
 
-use crate::bounds::{forced_full, full, untouched};
+use crate::bounds::{forced_full, full};
 use crate::entry::Entry;
 use crate::journal::Journal;
+use crate::promise::Promise;
 use crate::search::find;
 use crate::view::EntryView;
-use crate::write_set::WriteSet;
 use model::numbers::{MOST_ENTRIES, MOST_FORCED};
 use model::outcome::Outcome;
 use model::refusal::Refusal;
+use std::marker::Model;
 
 /// A journal over two given tables. A place is an index of the first; entries stand there in order, from 0 on.
 /// A restart loses every pending outcome.
@@ -26,17 +27,22 @@ pub struct TableJournal<const N: usize> {
     pointer: u16,
     highest: u16,
     capacity: usize,
-    // There is a place for each entry.
-    ghost room: { capacity ≤ vec_capacity entries },
-    // There is a place for each forced abort.
-    ghost spare: { 0 < capacity → most_forced ≤ vec_capacity forced },
+}
+
+// Clauses see the journal of the rules; there is a place for each entry and each forced abort.
+impl<const N: usize> Model for TableJournal<N> {
+    ghost Value = { Log };
+
+    ghost view = { λ t. table_log t.entries.items t.forced.items t.pointer t.highest t.capacity };
+
+    ghost invariant = { λ t. (t.capacity ≤ vec_capacity t.entries) × (0 < t.capacity → most_forced ≤ vec_capacity t.forced) };
 }
 
 impl<const N: usize> TableJournal<N> {
     /// An empty journal over tables that have been reserved; what they hold is dropped.
     /// It has room for N entries if N is 1 to 16 and the tables have places for N entries and 64 forced aborts, else for none.
     pub fn new(mut entries: Vec<Entry>, mut forced: Vec<u16>) -> TableJournal<N>
-        ensures { table_log result.entries.items result.forced.items result.pointer result.highest result.capacity ≡ empty_journal (usable N (vec_capacity entries) (vec_capacity forced)) }
+        ensures { result ≡ empty_journal (usable N (vec_capacity entries) (vec_capacity forced)) }
     {
         let capacity = usable_capacity(N, entries.capacity(), forced.capacity());
         entries.clear();
@@ -51,6 +57,7 @@ impl<const N: usize> TableJournal<N> {
     }
 }
 
+// A number, and no Option: in the rules a journal whose size does not suffice has the capacity 0.
 /// The capacity that is asked for, if it is one and the tables have as many places as it takes; else none.
 fn usable_capacity(wanted: usize, places: usize, forced_places: usize) -> usize
     ensures { result ≡ usable wanted places forced_places }
@@ -73,13 +80,11 @@ fn pending_outcome(commits: bool) -> Outcome
 }
 
 /// Makes every outcome durable; the pending ones are kept or lost.
-fn make_durable(entries: &mut Vec<Entry>, keeps_pending: bool)
-    ensures items { entries.new.items ≡ map (durable_entry keeps_pending) entries.old.items }
-    ensures capacity { vec_capacity entries.new ≡ vec_capacity entries.old }
+fn make_durable(entries: &mut [Entry], keeps_pending: bool)
+    ensures { entries.new ≡ map (durable_entry keeps_pending) entries.old }
 {
-    for index in 0..entries.len() {
-        let entry = entries[index].made_durable(keeps_pending);
-        entries[index] = entry;
+    for entry in entries.iter_mut() {
+        *entry = entry.made_durable(keeps_pending);
     }
 }
 
@@ -88,22 +93,12 @@ impl<const N: usize> Journal for TableJournal<N> {
 
     type Place = usize;
 
-    ghost log = { λ t. table_log t.entries.items t.forced.items t.pointer t.highest t.capacity };
+    ghost log = { λ t. t };
 
     ghost position = { λ _ place. place };
 
     fn places(&self) -> usize {
         self.capacity
-    }
-
-    fn as_made(&self) -> bool {
-        untouched(
-            self.entries.len(),
-            self.forced.len(),
-            self.pointer,
-            self.highest,
-            self.capacity,
-        )
     }
 
     fn count(&self) -> usize {
@@ -127,22 +122,14 @@ impl<const N: usize> Journal for TableJournal<N> {
     }
 
     fn place(&self, index: usize) -> Option<usize> {
-        if index < self.entries.len() {
-            Some(index)
-        } else {
-            None
-        }
+        (index < self.entries.len()).then_some(index)
     }
 
     fn entry(&self, place: usize) -> Option<EntryView<'_>> {
-        if place < self.entries.len() {
-            Some(self.entries[place].view())
-        } else {
-            None
-        }
+        self.entries.get(place).map(|entry| entry.view())
     }
 
-    fn add(&mut self, tid: u16, participants: u8, writes: &WriteSet) -> Result<usize, Refusal> {
+    fn add(&mut self, promise: &Promise) -> Result<usize, Refusal> {
         let place = self.entries.len();
         if full(self.capacity, place, self.highest) {
             return Err(Refusal::NoRoom);
@@ -150,9 +137,7 @@ impl<const N: usize> Journal for TableJournal<N> {
         let running = self.highest + 1;
         self.entries.push_reserved(Entry {
             running,
-            tid,
-            participants,
-            writes: *writes,
+            promise: *promise,
             outcome: None,
         });
         self.highest = running;
@@ -160,9 +145,7 @@ impl<const N: usize> Journal for TableJournal<N> {
     }
 
     fn note(&mut self, tid: u16, commits: bool) -> Result<(), Refusal> {
-        let Some(place) = find(self.entries.as_slice(), tid) else {
-            return Err(Refusal::NotReady);
-        };
+        let place = find(self.entries.as_slice(), tid).ok_or(Refusal::NotReady)?;
         self.entries[place].outcome = Some(pending_outcome(commits));
         Ok(())
     }
@@ -191,14 +174,14 @@ impl<const N: usize> Journal for TableJournal<N> {
     }
 
     fn flush(&mut self) {
-        make_durable(&mut self.entries, true);
+        make_durable(self.entries.as_mut_slice(), true);
     }
 
     /// Every pending outcome is lost.
     fn restart(&mut self)
-        ensures restarted { Restarted (table_log self.old.entries.items self.old.forced.items self.old.pointer self.old.highest self.old.capacity) (table_log self.new.entries.items self.new.forced.items self.new.pointer self.new.highest self.new.capacity) }
-        ensures log { (table_log self.new.entries.items self.new.forced.items self.new.pointer self.new.highest self.new.capacity) ≡ restarted (table_log self.old.entries.items self.old.forced.items self.old.pointer self.old.highest self.old.capacity) (only_durable (map stored_entry self.old.entries.items)) }
+        ensures restarted { Restarted self.old self.new }
+        ensures log { self.new ≡ restarted self.old (only_durable self.old.entries) }
     {
-        make_durable(&mut self.entries, false);
+        make_durable(self.entries.as_mut_slice(), false);
     }
 }

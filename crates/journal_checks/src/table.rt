@@ -2,12 +2,13 @@
 
 use journal::journal::Journal;
 use journal::lookup::entry_of;
+use journal::promise::Promise;
 use journal::retiring::enter_and_retire;
 use journal::table::TableJournal;
-use journal::write_set::WriteSet;
 use model::outcome::Outcome;
 use model::refusal::Refusal;
 use records::item::Item;
+use records::item_set::{ItemSet, Selection};
 use records::items::Items;
 use std::alloc::{AllocError, Global};
 use std::process::Abort;
@@ -33,25 +34,31 @@ fn made<const N: usize>(
     Ok(TableJournal::<N>::new(entries, forced))
 }
 
+/// What a yes vote on a minitransaction promises.
+fn promise(tid: u16, participants: u8, writes: ItemSet) -> Promise {
+    Promise {
+        tid,
+        participants,
+        writes,
+    }
+}
+
 /// What the entry at a place has for an outcome, if one stands there.
 fn outcome_at<const N: usize>(journal: &TableJournal<N>, place: usize) -> Option<Option<Outcome>> {
-    match journal.entry(place) {
-        Some(entry) => Some(entry.outcome),
-        None => None,
-    }
+    journal.entry(place).map(|entry| entry.outcome)
 }
 
 #[test]
 fn one_entry_fills_a_journal_of_capacity_one(rt: HostRuntime) -> Result<(), Fail> {
     let mut journal = made::<1>(rt.alloc(), 1, 64)?;
-    let writes = WriteSet::of(Items::parse(&MIXED)?);
+    let writes = ItemSet::of(Items::parse(&MIXED)?, Selection::Writes);
     assert!(rt; journal.as_made());
     assert_eq!(rt; journal.places(), 1);
-    assert_eq!(rt; journal.add(7, 1, &writes), Ok(0));
-    assert_eq!(rt; journal.add(8, 1, &writes), Err(Refusal::NoRoom));
+    assert_eq!(rt; journal.add(&promise(7, 1, writes)), Ok(0));
+    assert_eq!(rt; journal.add(&promise(8, 1, writes)), Err(Refusal::NoRoom));
     assert_eq!(rt; journal.count(), 1);
     assert_eq!(rt; journal.drop_oldest(), Ok(()));
-    assert_eq!(rt; journal.add(8, 1, &writes), Ok(0));
+    assert_eq!(rt; journal.add(&promise(8, 1, writes)), Ok(0));
     assert_eq!(rt; journal.highest(), 2);
     assert!(rt; !journal.as_made());
     Ok(())
@@ -60,15 +67,15 @@ fn one_entry_fills_a_journal_of_capacity_one(rt: HostRuntime) -> Result<(), Fail
 #[test]
 fn sixteen_entries_fill_the_largest_journal(rt: HostRuntime) -> Result<(), Fail> {
     let mut journal = made::<16>(rt.alloc(), 16, 64)?;
-    let writes = WriteSet::of(Items::parse(&MIXED)?);
+    let writes = ItemSet::of(Items::parse(&MIXED)?, Selection::Writes);
     for place in 0..16 {
         assert_eq!(rt;
-            journal.add(place as u16 + 1, 3, &writes),
+            journal.add(&promise(place as u16 + 1, 3, writes)),
             Ok(place),
             "{place}"
         );
     }
-    assert_eq!(rt; journal.add(17, 3, &writes), Err(Refusal::NoRoom));
+    assert_eq!(rt; journal.add(&promise(17, 3, writes)), Err(Refusal::NoRoom));
     assert_eq!(rt; journal.count(), 16);
     assert_eq!(rt; journal.highest(), 16);
     Ok(())
@@ -90,23 +97,23 @@ fn sixty_four_forced_aborts_stand_and_no_more(rt: HostRuntime) -> Result<(), Fai
 #[test]
 fn the_last_running_number_is_given_once(rt: HostRuntime) -> Result<(), Fail> {
     let mut journal = made::<1>(rt.alloc(), 1, 64)?;
-    let writes = WriteSet::of(Items::parse(&READS)?);
+    let writes = ItemSet::of(Items::parse(&READS)?, Selection::Writes);
     for tid in 1..=65535 {
-        assert_eq!(rt; journal.add(tid, 1, &writes), Ok(0), "{tid}");
+        assert_eq!(rt; journal.add(&promise(tid, 1, writes)), Ok(0), "{tid}");
         assert_eq!(rt; journal.drop_oldest(), Ok(()), "{tid}");
     }
     assert_eq!(rt; journal.highest(), 65535);
     assert_eq!(rt; journal.count(), 0);
-    assert_eq!(rt; journal.add(1, 1, &writes), Err(Refusal::NoRoom));
+    assert_eq!(rt; journal.add(&promise(1, 1, writes)), Err(Refusal::NoRoom));
     Ok(())
 }
 
 #[test]
 fn a_restart_loses_pending_outcomes_and_nothing_else(rt: HostRuntime) -> Result<(), Fail> {
     let mut journal = made::<4>(rt.alloc(), 4, 64)?;
-    let writes = WriteSet::of(Items::parse(&MIXED)?);
-    assert_eq!(rt; journal.add(5, 1, &writes), Ok(0));
-    assert_eq!(rt; journal.add(6, 3, &writes), Ok(1));
+    let writes = ItemSet::of(Items::parse(&MIXED)?, Selection::Writes);
+    assert_eq!(rt; journal.add(&promise(5, 1, writes)), Ok(0));
+    assert_eq!(rt; journal.add(&promise(6, 3, writes)), Ok(1));
     assert_eq!(rt; journal.force(9), Ok(()));
     journal.set_pointer(1);
     assert_eq!(rt; journal.note(5, true), Ok(()));
@@ -147,9 +154,9 @@ fn without_an_entry_nothing_is_dropped_or_noted(rt: HostRuntime) -> Result<(), F
 #[test]
 fn the_oldest_entry_is_dropped(rt: HostRuntime) -> Result<(), Fail> {
     let mut journal = made::<4>(rt.alloc(), 4, 64)?;
-    let writes = WriteSet::of(Items::parse(&MIXED)?);
-    assert_eq!(rt; journal.add(5, 1, &writes), Ok(0));
-    assert_eq!(rt; journal.add(6, 3, &writes), Ok(1));
+    let writes = ItemSet::of(Items::parse(&MIXED)?, Selection::Writes);
+    assert_eq!(rt; journal.add(&promise(5, 1, writes)), Ok(0));
+    assert_eq!(rt; journal.add(&promise(6, 3, writes)), Ok(1));
     assert_eq!(rt; journal.drop_oldest(), Ok(()));
     assert!(rt; entry_of(&journal, 5).is_none());
     let Some(entry) = entry_of(&journal, 6) else {
@@ -163,26 +170,25 @@ fn the_oldest_entry_is_dropped(rt: HostRuntime) -> Result<(), Fail> {
 #[test]
 fn an_entry_keeps_the_writes_of_its_list(rt: HostRuntime) -> Result<(), Fail> {
     let mut journal = made::<4>(rt.alloc(), 4, 64)?;
-    let writes = WriteSet::of(Items::parse(&MIXED)?);
-    assert_eq!(rt; journal.add(5, 1, &writes), Ok(0));
+    let writes = ItemSet::of(Items::parse(&MIXED)?, Selection::Writes);
+    assert_eq!(rt; journal.add(&promise(5, 1, writes)), Ok(0));
     let Some(entry) = entry_of(&journal, 5) else {
         return Err(Fail::new("there is no entry"));
     };
     let mut items = entry.writes;
-    match items.next_item() {
-        Some(
-            Item::Write {
-                node,
-                address,
-                data,
-            },
-        ) => {
-            assert_eq!(rt; node, 0);
-            assert_eq!(rt; address, 5);
-            assert_eq!(rt; data, [0x18].as_slice());
-        }
-        _ => return Err(Fail::new("no write item")),
-    }
+    let Some(
+        Item::Write {
+            node,
+            address,
+            data,
+        },
+    ) = items.next_item()
+    else {
+        return Err(Fail::new("no write item"));
+    };
+    assert_eq!(rt; node, 0);
+    assert_eq!(rt; address, 5);
+    assert_eq!(rt; data, [0x18].as_slice());
     assert!(rt; items.next_item().is_none());
     Ok(())
 }
@@ -190,8 +196,8 @@ fn an_entry_keeps_the_writes_of_its_list(rt: HostRuntime) -> Result<(), Fail> {
 #[test]
 fn a_reader_has_an_entry_without_writes(rt: HostRuntime) -> Result<(), Fail> {
     let mut journal = made::<4>(rt.alloc(), 4, 64)?;
-    let writes = WriteSet::of(Items::parse(&READS)?);
-    assert_eq!(rt; journal.add(5, 1, &writes), Ok(0));
+    let writes = ItemSet::of(Items::parse(&READS)?, Selection::Writes);
+    assert_eq!(rt; journal.add(&promise(5, 1, writes)), Ok(0));
     let Some(entry) = entry_of(&journal, 5) else {
         return Err(Fail::new("there is no entry"));
     };
@@ -205,10 +211,14 @@ fn check_useless<const N: usize>(
     mut journal: TableJournal<N>,
     what: &str,
 ) -> Result<(), Fail> {
-    let writes = WriteSet::of(Items::parse(&READS)?);
+    let writes = ItemSet::of(Items::parse(&READS)?, Selection::Writes);
     assert!(rt; !journal.as_made(), "{what}");
     assert_eq!(rt; journal.places(), 0, "{what}");
-    assert_eq!(rt; journal.add(1, 1, &writes), Err(Refusal::NoRoom), "{what}");
+    assert_eq!(rt;
+        journal.add(&promise(1, 1, writes)),
+        Err(Refusal::NoRoom),
+        "{what}"
+    );
     assert_eq!(rt; journal.force(1), Err(Refusal::NoRoom), "{what}");
     assert_eq!(rt; journal.count(), 0, "{what}");
     Ok(())
@@ -229,9 +239,12 @@ fn tables_that_are_too_small_make_no_journal(rt: HostRuntime) -> Result<(), Fail
 #[test]
 fn a_flushed_outcome_goes_through_a_loss_of_power(rt: HostRuntime) -> Result<(), Fail> {
     let mut journal = made::<4>(rt.alloc(), 4, 64)?;
-    let writes = WriteSet::of(Items::parse(&MIXED)?);
-    assert_eq!(rt; journal.add(5, 1, &writes), Ok(0));
-    assert_eq!(rt; enter_and_retire(&mut journal, 6, 1, &writes, true), Ok(()));
+    let writes = ItemSet::of(Items::parse(&MIXED)?, Selection::Writes);
+    assert_eq!(rt; journal.add(&promise(5, 1, writes)), Ok(0));
+    assert_eq!(rt;
+        enter_and_retire(&mut journal, &promise(6, 1, writes), true),
+        Ok(())
+    );
     assert_eq!(rt; journal.count(), 1);
     assert_eq!(rt;
         outcome_at(&journal, 0),

@@ -1,5 +1,6 @@
 -- Writes under a budget, one after the other.
 use Rattle.std.proofs.Common.{◌≡◌, ℕ, zero, suc, ◌-◌, Bool, true, false, cond, not, ltb, List, [], ◌∷◌, ◌++◌, map, take, sym, refl, ap, ◌∙◌, subst, ap₂, arith}
+use lib.Seq.{take-nil}
 use Rattle.std.proofs.lemmas.Bool.{lt-ltb, ltb-true, ne_eqb}
 use Rattle.model.specs.Items.{Item}
 use Rattle.model.specs.Lists.{only}
@@ -51,15 +52,11 @@ touched_first k = fold_first (λ ws b. touched_by_all ws k b) (λ w b. touched_b
 
 -- ## Lists of writes
 
-take_none : {X : Type 0} (n : ℕ) → take {A = X} n [] ≡ []
-take_none zero = refl
-take_none (suc n) = refl
-
 budgeted_none : (left : ℕ) → budgeted left [] ≡ []
 budgeted_none left = go (fails left)
   where
     go : (b : Bool) → cond b (take {A = Write} left []) [] ≡ []
-    go true = take_none left
+    go true = take-nil left
     go false = refl
 
 pub made_none : (left : ℕ) (s : Stores) (d : ℕ → Bool) → Made left [] s d left s d

@@ -39,8 +39,5 @@ module _ (q : ℕ) (n : Node) (tid : ℕ) (who : Party) where
   inquired_new : has_entry (journal_of n) tid ≡ false → is_forced (journal_of n) tid ≡ false → inquired q n tid who ≡ cond (is_forced_full (journal_of n)) lost promising
   inquired_new h f = inquired_not h ∙ ap (λ b. cond (not (not b)) (replying false) (cond (is_forced_full (journal_of n)) lost promising)) f
 
-  pub inquired_lost : has_entry (journal_of n) tid ≡ false → is_forced (journal_of n) tid ≡ false → is_forced_full (journal_of n) ≡ true → inquired q n tid who ≡ lost
-  inquired_lost h f r = inquired_new h f ∙ ap (λ b. cond b lost promising) r
-
   pub inquired_promised : has_entry (journal_of n) tid ≡ false → is_forced (journal_of n) tid ≡ false → is_forced_full (journal_of n) ≡ false → inquired q n tid who ≡ promising
   inquired_promised h f r = inquired_new h f ∙ ap (λ b. cond b lost promising) r

@@ -1,4 +1,5 @@
 pub mod Budgets
+pub mod Standing
 pub mod Reading
 pub mod Tables
 pub mod Nodes

@@ -1,22 +1,19 @@
 -- What the tables of a node stand for.
-use Rattle.std.specs.Prelude.{ℕ, cond, List, [], map, take, Some, None, Option, slice_index_or}
+use Rattle.std.specs.Prelude.{ℕ, cond, List, [], map, Some, None, Option, slice_index_or}
 use Rattle.model.specs.Lists.{place, stands}
 use Rattle.model.specs.Node.{Doubt as PlainDoubt, Unresolved as PlainUnresolved}
 use Rattle.records.specs.ItemSets.{set_items}
 use Rattle.nodes.specs.declared.doubts.Doubt.{Doubt}
-use Rattle.nodes.specs.declared.doubts.Doubts.{Doubts}
 use Rattle.nodes.specs.declared.unresolved.Unresolved.{Unresolved}
-use Rattle.nodes.specs.declared.unresolved.UnresolvedTable.{UnresolvedTable}
+use Rattle.nodes.specs.declared.table.Table.{Table}
+use Rattle.nodes.specs.Standing.{standing}
 
 abbrev pub doubt_meaning : Doubt → PlainDoubt
 doubt_meaning d = record { tid = d.tid; participants = d.participants; items = set_items d.items }
 
--- the records of those in doubt, in order
-abbrev pub standing_doubts : Doubts → List Doubt
-standing_doubts t = take t.count t.records
-
-abbrev pub doubts_meaning : Doubts → List PlainDoubt
-doubts_meaning t = map doubt_meaning (standing_doubts t)
+-- those in doubt, in order
+abbrev pub doubts_meaning : Table Doubt → List PlainDoubt
+doubts_meaning t = map doubt_meaning (standing t)
 
 -- the value that stands for a record past the end of a slice
 abbrev pub no_record : Doubt
@@ -27,12 +24,9 @@ no_record = record { tid = 0; participants = 0; items = record { count = 0; byte
 abbrev pub unresolved_meaning : Unresolved → PlainUnresolved
 unresolved_meaning u = record { tid = u.tid; participants = u.participants; agreed = u.agreed; resolution = u.resolution }
 
--- the records of the unresolved entries, in order
-abbrev pub standing_unresolved : UnresolvedTable → List Unresolved
-standing_unresolved t = take t.count t.records
-
-abbrev pub unresolveds_meaning : UnresolvedTable → List PlainUnresolved
-unresolveds_meaning t = map unresolved_meaning (standing_unresolved t)
+-- the unresolved entries, in order
+abbrev pub unresolveds_meaning : Table Unresolved → List PlainUnresolved
+unresolveds_meaning t = map unresolved_meaning (standing t)
 
 -- the value that stands for a record past the end of a slice
 abbrev pub no_finding : Unresolved

@@ -14,6 +14,7 @@ ghost use Rattle.records.specs.Cursor.{items_meaning};
 
 use crate::budget::Budget;
 use memory::Memory;
+use model::numbers::LONGEST_ITEM;
 use records::item::Item;
 use records::item_set::Selection;
 use records::items::Items;
@@ -23,12 +24,9 @@ fn matches_at<M: Memory>(memory: &M, address: u16, wanted: &[u8]) -> bool
     requires { length wanted.now ≤ longest_item }
     ensures { result ≡ matches_at (M.bytes memory.now) address wanted.now }
 {
-    let mut buffer = [0; 16];
-    let found = &mut buffer[0..wanted.len()];
-    match memory.read(address as usize, found) {
-        Ok(()) => *found == *wanted,
-        Err(_) => false,
-    }
+    let mut buffer = [0; LONGEST_ITEM as usize];
+    let found = &mut buffer[..wanted.len()];
+    memory.read(address as usize, found).is_ok() && *found == *wanted
 }
 
 /// Whether a comparison is true; another item asks nothing.
@@ -43,15 +41,10 @@ fn holds<M: Memory>(memory: &M, item: &Item<'_>) -> bool
 }
 
 /// Whether every comparison is true.
-pub(crate) fn all_hold<M: Memory>(memory: &M, items: Items<'_>) -> bool
+pub(crate) fn all_hold<M: Memory>(memory: &M, mut items: Items<'_>) -> bool
     ensures { result ≡ all_hold (M.bytes memory.now) (items_meaning items.entry) }
 {
-    for item in items {
-        if !holds(memory, &item) {
-            return false;
-        }
-    }
-    true
+    items.all(|item| holds(memory, &item))
 }
 
 /// Writes a write item. One that passes the end of the memory is refused by it and alters nothing;
@@ -84,9 +77,8 @@ pub(crate) fn put_items<M: Memory>(
     ensures { (j : Log) → Made budget.old.left (puts selection (items_meaning items.entry)) (both (M.bytes memory.old) j) (M.durable memory.old) budget.new.left (both (M.bytes memory.new) j) (M.durable memory.new) }
 {
     for item in items {
-        if !selection.takes(&item) {
-            continue;
+        if selection.takes(&item) {
+            put_counted(memory, &item, budget);
         }
-        put_counted(memory, &item, budget);
     }
 }

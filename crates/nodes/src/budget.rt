@@ -4,9 +4,14 @@ ghost use Rattle.std.specs.Prelude.{◌≡◌, not};
 ghost use Rattle.model.specs.Writes.{fails as is_limited};
 ghost use Rattle.nodes.specs.Budgets.{spent, allows};
 
-/// How many durable writes a call may still make before power fails; 255 is no failure.
+/// The budget of a call in which power does not fail.
+pub const UNLIMITED: u8 = 255;
+
+// A number, and no Option: the budgets of the rules and of all calls are bytes of which 255 means no failure.
+/// How many durable writes a call may still make before power fails.
 #[derive(Clone, Copy)]
 pub struct Budget {
+    /// The writes that are left, or [`UNLIMITED`].
     pub left: u8,
 }
 
@@ -16,20 +21,17 @@ impl Budget {
         ensures answer { result ≡ allows self.old.left }
         ensures left { self.new.left ≡ spent self.old.left }
     {
-        if self.left == 255 {
-            return true;
+        let allowed = self.left > 0;
+        if self.fails() {
+            self.left = self.left.saturating_sub(1);
         }
-        if self.left == 0 {
-            return false;
-        }
-        self.left -= 1;
-        true
+        allowed
     }
 
     /// Whether power fails in the call.
     pub fn fails(&self) -> bool
         ensures { result ≡ is_limited self.now.left }
     {
-        self.left < 255
+        self.left < UNLIMITED
     }
 }

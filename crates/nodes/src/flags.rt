@@ -4,13 +4,13 @@ ghost use Rattle.std.specs.Prelude.{◌≡◌, true, slice_set};
 
 use model::numbers::MOST_NODES;
 
-/// The same, known of one node more; a cluster has no node beyond the fourth.
-pub(crate) fn with_node(flags: [bool; MOST_NODES], node: u16) -> [bool; MOST_NODES]
-    ensures { result ≡ slice_set flags node true }
+/// Marks one node more; a cluster has no node beyond the fourth.
+pub(crate) fn mark_node(flags: &mut [bool; MOST_NODES], node: u16)
+    ensures { flags.new ≡ slice_set flags.old node true }
 {
-    let mut more = flags;
-    if node < 4 {
-        more[node as usize] = true;
+    // A test in place of get_mut, whose contract does not say what the array is once the flag is written: no proof closed.
+    let place = node as usize;
+    if place < MOST_NODES {
+        flags[place] = true;
     }
-    more
 }

@@ -6,13 +6,12 @@ ghost use Rattle.std.specs.Option.{option_map};
 ghost use Rattle.model.specs.Journal.{is_empty, has_entry, is_forced_full, oldest as oldest_of};
 ghost use Rattle.journal.specs.Entries.{entry_meaning};
 ghost use Rattle.nodes.specs.Effects.{Done, Reacts};
-ghost use Rattle.nodes.specs.declared.response.Content.TheVariants.{Reply};
-ghost use Rattle.nodes.specs.declared.response.Reaction.TheVariants.{Taken};
 ghost use Rattle.nodes.specs.Nodes.{volatile_meaning, node_meaning};
 ghost use Rattle.nodes.specs.Responses.{sent_meaning};
 
 use crate::budget::Budget;
-use crate::flags::with_node;
+use crate::envelope::Envelope;
+use crate::flags::mark_node;
 use crate::promises::force_abort;
 use crate::response::{Content, Reaction, Response};
 use crate::state::Node;
@@ -28,74 +27,58 @@ impl<M: Memory, J: Journal> Node<M, J> {
     fn is_settled(&self, tid: u16) -> bool
         ensures { result ≡ is_settled (J.log self.now.journal) tid }
     {
-        match entry_of(&self.journal, tid) {
-            Some(entry) => entry.running <= self.journal.pointer(),
-            None => true,
-        }
+        entry_of(&self.journal, tid).is_none_or(|entry| entry.running <= self.journal.pointer())
     }
 
     /// A query: settled is sent back where nothing depends on this journal any more.
-    pub(crate) fn answer_query(&self, me: u16, tid: u16, sender: Party) -> Option<Response>
-        ensures { sent_meaning result ≡ (queried me (node_meaning M.bytes J.log self.now) tid sender).sent }
+    pub(crate) fn answer_query(&self, query: Envelope) -> Option<Response>
+        ensures { sent_meaning result ≡ (queried query.me (node_meaning M.bytes J.log self.now) query.tid query.sender).sent }
     {
-        if self.is_settled(tid) {
-            Some(Response {
-                tid,
-                sender: me,
-                receiver: sender,
-                content: Content::Settled,
-            })
-        } else {
-            None
-        }
+        self.is_settled(query.tid)
+            .then_some(query.answer(Content::Settled))
     }
 
     /// The oldest entry, if there is one.
     pub(crate) fn oldest(&self) -> Option<EntryView<'_>>
         ensures { option_map entry_meaning result ≡ (if is_empty (J.log self.now.journal) then None else Some (oldest_of (J.log self.now.journal))) }
     {
-        match self.journal.place(0) {
-            Some(place) => self.journal.entry(place),
-            None => None,
-        }
+        self.journal.entry(self.journal.place(0)?)
     }
 
     /// Whether a minitransaction is the oldest entry's.
     fn is_oldest(&self, tid: u16) -> bool
         ensures { result ≡ is_oldest (J.log self.now.journal) tid }
     {
-        match self.oldest() {
-            Some(entry) => entry.tid == tid,
-            None => false,
-        }
+        self.oldest().is_some_and(|entry| entry.tid == tid)
     }
 
     /// A settled message: its sender has the oldest entry durably applied.
     pub(crate) fn acknowledge(&mut self, tid: u16, sender: Party)
-        ensures stores { (self.new.memory ≡ self.old.memory) × (self.new.journal ≡ self.old.journal) }
+        ensures memory { self.new.memory ≡ self.old.memory }
+        ensures journal { self.new.journal ≡ self.old.journal }
         ensures volatile { volatile_meaning self.new.volatile ≡ (acknowledging (node_meaning M.bytes J.log self.old) tid sender).volatile }
     {
         if !self.is_oldest(tid) {
             return;
         }
         if let Party::Node(node) = sender {
-            self.volatile.acknowledged = with_node(self.volatile.acknowledged, node);
+            mark_node(&mut self.volatile.acknowledged, node);
         }
     }
 
     /// A reply while recovering: it may resolve an entry without outcome.
-    pub(crate) fn hear_reply(&mut self, me: u16, tid: u16, sender: Party, stands: bool)
-        ensures stores { (self.new.memory ≡ self.old.memory) × (self.new.journal ≡ self.old.journal) }
-        ensures volatile { volatile_meaning self.new.volatile ≡ (replied me (node_meaning M.bytes J.log self.old) tid sender stands).volatile }
+    pub(crate) fn hear_reply(&mut self, reply: Envelope, stands: bool)
+        ensures memory { self.new.memory ≡ self.old.memory }
+        ensures journal { self.new.journal ≡ self.old.journal }
+        ensures volatile { volatile_meaning self.new.volatile ≡ (replied reply.me (node_meaning M.bytes J.log self.old) reply.tid reply.sender stands).volatile }
     {
-        let Some((place, found)) = self.volatile.unresolved.get(tid) else {
+        let Some((place, found)) = self.volatile.unresolved.get(reply.tid) else {
             return;
         };
-        if !found.is_open() {
-            return;
+        if found.is_open() {
+            let heard = found.heard(reply.me, reply.sender, stands);
+            self.volatile.unresolved.replace(place, heard);
         }
-        let heard = found.heard(me, sender, stands);
-        self.volatile.unresolved = self.volatile.unresolved.replaced(place, heard);
     }
 
     /// Whether the yes entry of a minitransaction stands.
@@ -113,37 +96,19 @@ impl<M: Memory, J: Journal> Node<M, J> {
     }
 
     /// An inquiry: a no is a promise never to vote yes, and is kept in the journal before it is given.
-    pub(crate) fn answer_inquiry(
-        &mut self,
-        me: u16,
-        tid: u16,
-        sender: Party,
-        budget: &mut Budget,
-    ) -> Reaction
-        ensures { Reacts budget.old.left (inquired me (node_meaning M.bytes J.log self.old) tid sender) (node_meaning M.bytes J.log self.old) (M.durable self.old.memory) result budget.new.left (node_meaning M.bytes J.log self.new) (M.durable self.new.memory) }
+    pub(crate) fn answer_inquiry(&mut self, inquiry: Envelope, budget: &mut Budget) -> Reaction
+        ensures { Reacts budget.old.left (inquired inquiry.me (node_meaning M.bytes J.log self.old) inquiry.tid inquiry.sender) (node_meaning M.bytes J.log self.old) (M.durable self.old.memory) result budget.new.left (node_meaning M.bytes J.log self.new) (M.durable self.new.memory) }
     {
-        if self.has_entry(tid) {
-            return replying(me, tid, sender, true);
+        if self.has_entry(inquiry.tid) {
+            return inquiry.replying(true);
         }
-        if self.journal.is_forced(tid) {
-            return replying(me, tid, sender, false);
+        if self.journal.is_forced(inquiry.tid) {
+            return inquiry.replying(false);
         }
         if self.is_forced_full() {
             return Reaction::Lost;
         }
-        force_abort(&mut self.journal, tid, budget);
-        replying(me, tid, sender, false)
+        force_abort(&mut self.journal, inquiry.tid, budget);
+        inquiry.replying(false)
     }
-}
-
-/// Takes an inquiry and answers it.
-fn replying(me: u16, tid: u16, receiver: Party, stands: bool) -> Reaction
-    ensures { result ≡ Taken (Some (record { tid = tid; sender = me; receiver = receiver; content = Reply stands })) }
-{
-    Reaction::Taken(Some(Response {
-        tid,
-        sender: me,
-        receiver,
-        content: Content::Reply { stands },
-    }))
 }

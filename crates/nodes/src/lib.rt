@@ -5,6 +5,7 @@
 pub mod access;
 pub mod budget;
 pub mod doubts;
+mod envelope;
 mod flags;
 mod handling;
 pub mod locks;
@@ -12,4 +13,5 @@ mod promises;
 pub mod reads;
 pub mod response;
 pub mod state;
+pub mod table;
 pub mod unresolved;

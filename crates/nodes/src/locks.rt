@@ -27,25 +27,15 @@ pub fn clash(one: &Item<'_>, other: &Item<'_>) -> bool
 }
 
 /// Whether an item clashes with one of a list.
-fn clashes_with(item: &Item<'_>, others: Items<'_>) -> bool
+fn clashes_with(item: &Item<'_>, mut others: Items<'_>) -> bool
     ensures { result ≡ some (λ j. is_clash (item_meaning item.now) j) (items_meaning others.entry) }
 {
-    for other in others {
-        if clash(item, &other) {
-            return true;
-        }
-    }
-    false
+    others.any(|other| clash(item, &other))
 }
 
 /// Whether an item of one list clashes with one of another.
-pub fn lists_clash(items: Items<'_>, others: Items<'_>) -> bool
+pub fn lists_clash(mut items: Items<'_>, others: Items<'_>) -> bool
     ensures { result ≡ clashing (items_meaning items.entry) (items_meaning others.entry) }
 {
-    for item in items {
-        if clashes_with(&item, others) {
-            return true;
-        }
-    }
-    false
+    items.any(|item| clashes_with(&item, others))
 }

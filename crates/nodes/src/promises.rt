@@ -2,25 +2,19 @@
 
 ghost use Rattle.std.specs.Prelude.{ℕ, Bool, List};
 ghost use Rattle.model.specs.Writes.{add_entry, force, note};
-ghost use Rattle.journal.specs.WriteSets.{writes_of};
+ghost use Rattle.records.specs.ItemSets.{set_items};
 ghost use Rattle.nodes.specs.Budgets.{both, MadeOne};
 
 use crate::budget::Budget;
 use journal::journal::Journal;
-use journal::write_set::WriteSet;
+use journal::promise::Promise;
 
 /// Adds a yes entry, if the budget allows it; a full journal refuses and is not altered.
-pub(crate) fn add_entry<J: Journal>(
-    journal: &mut J,
-    tid: u16,
-    participants: u8,
-    writes: &WriteSet,
-    budget: &mut Budget,
-)
-    ensures { (cells : List ℕ) (durable : ℕ → Bool) → MadeOne budget.old.left (add_entry tid participants (writes_of writes.now)) (both cells (J.log journal.old)) durable budget.new.left (both cells (J.log journal.new)) durable }
+pub(crate) fn add_entry<J: Journal>(journal: &mut J, promise: &Promise, budget: &mut Budget)
+    ensures { (cells : List ℕ) (durable : ℕ → Bool) → MadeOne budget.old.left (add_entry promise.now.tid promise.now.participants (set_items promise.now.writes)) (both cells (J.log journal.old)) durable budget.new.left (both cells (J.log journal.new)) durable }
 {
     if budget.spend() {
-        let _ = journal.add(tid, participants, writes);
+        let _ = journal.add(promise);
     }
 }
 

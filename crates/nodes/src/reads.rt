@@ -15,6 +15,7 @@ use records::item::Item;
 use records::items::Items;
 
 /// Up to 128 bytes that were read, in item order.
+// An array with a length: what a node keeps is of fixed size, without a heap, and copied freely as an ArrayVec is not.
 #[derive(Clone, Copy)]
 pub struct Reads {
     /// How many there are.
@@ -34,39 +35,36 @@ impl Reads {
             bytes: [0; MOST_READS],
         }
     }
-}
 
-/// Reads some bytes behind those that were read before; a range past the end of the memory gives none.
-fn read_at<M: Memory>(memory: &M, address: u16, length: u8, reads: Reads) -> Reads
-    requires { (reads.length + longest_item ≤ most_reads) × (length ≤ longest_item) }
-    ensures bytes { read_bytes result ≡ read_bytes reads ++ read_at (M.bytes memory.now) address length }
-    ensures count { result.length ≤ reads.length + longest_item }
-{
-    let mut more = reads;
-    let start = reads.length;
-    let end = start + length as usize;
-    match memory.read(address as usize, &mut more.bytes[start..end]) {
-        Ok(()) => Reads {
-            length: end,
-            bytes: more.bytes,
-        },
-        Err(_) => reads,
+    /// Reads some bytes behind those that were read before; a range past the end of the memory gives none.
+    fn read_at<M: Memory>(&mut self, memory: &M, address: u16, length: u8)
+        requires room { self.old.length + longest_item ≤ most_reads }
+        requires short { length ≤ longest_item }
+        ensures bytes { read_bytes self.new ≡ read_bytes self.old ++ read_at (M.bytes memory.now) address length }
+        ensures count { self.new.length ≤ self.old.length + longest_item }
+    {
+        let end = self.length + length as usize;
+        let found = &mut self.bytes[self.length..end];
+        if memory.read(address as usize, found).is_ok() {
+            self.length = end;
+        }
     }
-}
 
-/// Reads what an item reads behind those bytes that were read before.
-fn read_item<M: Memory>(memory: &M, item: &Item<'_>, reads: Reads) -> Reads
-    requires { (reads.length + longest_item ≤ most_reads) × (is_item (item_meaning item.now) ≡ true) }
-    ensures bytes { read_bytes result ≡ read_bytes reads ++ read_item (M.bytes memory.now) (item_meaning item.now) }
-    ensures count { result.length ≤ reads.length + longest_item }
-{
-    match item {
-        Item::Read {
+    /// Reads what an item reads behind those bytes that were read before.
+    fn read_item<M: Memory>(&mut self, memory: &M, item: &Item<'_>)
+        requires room { self.old.length + longest_item ≤ most_reads }
+        requires form { is_item (item_meaning item.now) ≡ true }
+        ensures bytes { read_bytes self.new ≡ read_bytes self.old ++ read_item (M.bytes memory.now) (item_meaning item.now) }
+        ensures count { self.new.length ≤ self.old.length + longest_item }
+    {
+        if let Item::Read {
             address,
             length,
             ..
-        } => read_at(memory, *address, *length, reads),
-        _ => reads,
+        } = item
+        {
+            self.read_at(memory, *address, *length);
+        }
     }
 }
 
@@ -78,7 +76,7 @@ pub(crate) fn read_items<M: Memory>(memory: &M, items: Items<'_>) -> Reads
 {
     let mut reads = Reads::none();
     for item in items {
-        reads = read_item(memory, &item, reads);
+        reads.read_item(memory, &item);
     }
     reads
 }

@@ -31,6 +31,7 @@ pub struct Response {
 }
 
 /// What a node makes of a message, before power fails.
+// No Option: in an Option<Option<Response>> nothing would say which None is the lost message.
 #[derive(Clone, Copy)]
 pub enum Reaction {
     /// It takes it, and may have an answer.

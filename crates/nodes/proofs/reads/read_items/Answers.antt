@@ -20,20 +20,21 @@ loop-item-init g c =
       omega (arith, c.none-reads.ensures.count, ap (λ (it : Items). length (items_meaning it)) start),
     )
 
-pub read_item-reads-requires : goal.read_item-reads-requires
-read_item-reads-requires g c = (
-  omega (arith, ap length c.in-Some.ensures.steps, c.loop-item.invariant.3),
-  (and_parts _ _ (sym (are_more (item_meaning c.in-Some.item) (items_meaning c.next.new.self))
+pub read_item-requires : goal.read_item-requires
+read_item-requires g c = record {
+  room = omega (arith, ap length c.in-Some.ensures.steps, c.loop-item.invariant.3);
+  form =
+      (and_parts _ _ (sym (are_more (item_meaning c.in-Some.item) (items_meaning c.next.new.self))
       ∙ sym (ap are_items c.in-Some.ensures.steps)
-      ∙ taken_form c.loop-item.item-iterator.left c.loop-item.item-iterator.bytes.now)).0,
-)
+      ∙ taken_form c.loop-item.item-iterator.left c.loop-item.item-iterator.bytes.now)).0;
+}
 
 pub loop-item-preserved : goal.loop-item-preserved
 loop-item-preserved g c = (
   tt,
   tt,
-  reading_more (g.M.Memory.bytes c.args.memory.now) (item_meaning c.in-Some.item) _ _ _ _ _ c.in-Some.ensures.steps c.loop-item.invariant.2 c.read_item-reads.ensures.bytes,
-  omega (arith, ap length c.in-Some.ensures.steps, c.loop-item.invariant.3, c.read_item-reads.ensures.count),
+  reading_more (g.M.Memory.bytes c.args.memory.now) (item_meaning c.in-Some.item) _ _ _ _ _ c.in-Some.ensures.steps c.loop-item.invariant.2 c.read_item.ensures.bytes,
+  omega (arith, ap length c.in-Some.ensures.steps, c.loop-item.invariant.3, c.read_item.ensures.count),
 )
 
 pub returns : goal.returns

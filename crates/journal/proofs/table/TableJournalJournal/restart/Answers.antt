@@ -1,7 +1,8 @@
 -- Every pending outcome is lost.
-use Rattle.std.proofs.Common.{map, vec_items, ap, ◌∙◌}
-use Rattle.model.specs.Journal.{with_entries}
-use Rattle.journal.specs.Entries.{stored_entry}
+use Rattle.std.proofs.Common.{◌≡◌, false, map, length, vec_items, ap, ◌∙◌, rules}
+use Rattle.std.proofs.lemmas.List.{length-map, with_items_is}
+use Rattle.model.specs.Journal.{Journal as Log, with_entries, restarted}
+use Rattle.journal.specs.Entries.{stored_entry, durable_entry}
 use Rattle.journal.specs.Tables.{table_log}
 use Rattle.journal.specs.Restarts.{only_durable}
 use Rattle.journal.proofs.Tables.{durable_lost, durable_left}
@@ -9,10 +10,15 @@ use Rattle.journal.proofs.table.TableJournalJournal.restart.Goals as goal
 
 pub returns : goal.returns
 returns g c =
-    let t = c.args.self.now
-    in let log = table_log (vec_items t.entries) (vec_items t.forced) t.pointer t.highest t.capacity
-    in let holds = ap (with_entries log) (ap (map stored_entry) c.make_durable.ensures.items ∙ durable_lost (vec_items t.entries))
+    let t = c.self.inside
+    in let es = vec_items t.entries
+    in let log = table_log es (vec_items t.forced) t.pointer t.highest t.capacity
+    in let durable = c.make_durable.ensures ∙ ap (map (durable_entry false)) c.as_mut_slice.ensures.value
+    in let long : length es ≡ t.entries.len = search rules
+    in let kept = with_items_is t.entries c.make_durable.new.entries (ap length durable ∙ length-map es (durable_entry false) ∙ long)
+    in let holds = ap (with_entries log) (ap (map stored_entry) (kept ∙ durable) ∙ durable_lost es) ∙ ap (λ (j : Log). restarted j (only_durable j.entries)) c.self.view_is
+    in let before = c.args.self.now
     in record {
-      restarted = record { left = only_durable log.entries; allowed = durable_left log.entries; holds = holds };
+      restarted = record { left = only_durable before.entries; allowed = durable_left before.entries; holds = holds };
       log = holds;
     }

@@ -17,14 +17,14 @@ pub returns-then-has_entry : goal.returns-then-has_entry
 returns-then-has_entry g c =
     let n = node_meaning g.M.Memory.bytes g.J.Journal.log c.args.self.now in
     let d = g.M.Memory.durable c.args.self.now.memory in
-    reacts_by _ _ _ _ n n d d _ _ (inquired_stands c.args.me n c.args.tid c.args.sender (sym c.has_entry.ensures ∙ c.if-has_entry.true)) c.replying.ensures
+    reacts_by _ _ _ _ n n d d _ _ (inquired_stands c.args.inquiry.me n c.args.inquiry.tid c.args.inquiry.sender (sym c.has_entry.ensures ∙ c.if-has_entry.true)) c.replying.ensures
     (done_quiet c.args.budget.now.left n d _)
 
 pub returns-then-is_forced : goal.returns-then-is_forced
 returns-then-is_forced g c =
     let n = node_meaning g.M.Memory.bytes g.J.Journal.log c.args.self.now in
     let d = g.M.Memory.durable c.args.self.now.memory in
-    reacts_by _ _ _ _ n n d d _ _ (inquired_forced c.args.me n c.args.tid c.args.sender (sym c.has_entry.ensures ∙ c.if-has_entry.false) (sym c.is_forced.ensures ∙ c.if-is_forced.true)) c.replying-then-is_forced.ensures
+    reacts_by _ _ _ _ n n d d _ _ (inquired_forced c.args.inquiry.me n c.args.inquiry.tid c.args.inquiry.sender (sym c.has_entry.ensures ∙ c.if-has_entry.false) (sym c.is_forced.ensures ∙ c.if-is_forced.true)) c.replying-then-is_forced.ensures
     (done_quiet c.args.budget.now.left n d _)
 
 pub returns : goal.returns
@@ -36,6 +36,6 @@ returns g c =
     let left = c.args.budget.now.left in
     let left' = c.force_abort.new.budget.left in
     reacts_by left left' _ _ n n' d d _ _
-    (inquired_promised c.args.me n c.args.tid c.args.sender (sym c.has_entry.ensures ∙ c.if-has_entry.false) (sym c.is_forced.ensures ∙ c.if-is_forced.false) (sym c.is_forced_full.ensures ∙ c.if-is_forced_full.false))
+    (inquired_promised c.args.inquiry.me n c.args.inquiry.tid c.args.inquiry.sender (sym c.has_entry.ensures ∙ c.if-has_entry.false) (sym c.is_forced.ensures ∙ c.if-is_forced.false) (sym c.is_forced_full.ensures ∙ c.if-is_forced_full.false))
     c.replying-2.ensures
     (record { made = made_single left left' _ n.stores n'.stores d d (c.force_abort.ensures (g.M.Memory.bytes c.args.self.now.memory) d); volatile = refl; answer = refl })
