@@ -1,11 +1,11 @@
 -- What is said of a record.
-use Rattle.std.specs.Prelude.{ℕ, Bool, true, cond, ◌||◌, List, [], ◌∷◌, ◌++◌, length, is_some, Some, None, codes, decimal, Option}
-use Rattle.model.specs.declared.party.Party.{Party}
-use Rattle.model.specs.declared.party.Party.TheVariants.{Node, Coordinator, Recovery}
+use Rattle.std.specs.Prelude.{ℕ, Bool, true, cond, ◌||◌, List, [], ◌++◌, length, is_some, Some, None, codes, decimal, Option}
+use Rattle.std.specs.List.{flat_map}
 use Rattle.model.specs.declared.refusal.Refusal.TheVariants.{Malformed}
 use Rattle.model.specs.declared.vote.Vote.{Vote}
 use Rattle.model.specs.Items.{Item, compare, read, write}
 use Rattle.model.specs.Messages.{Body, Message, prepare, voted, finish, inquiry, reply, query, settled}
+use Rattle.model.specs.Parties.{party_text}
 use Rattle.model.specs.Refusals.{refusal_number}
 use Rattle.model.specs.Votes.{vote_number}
 use Rattle.model.specs.Requests.{decode_request}
@@ -15,9 +15,9 @@ use Rattle.text.specs.Lines.{without}
 
 -- ## Items
 
-unfoldable pub bytes_text : List ℕ → List ℕ
-bytes_text [] = []
-bytes_text (b ∷ bs) = (codes " " ++ decimal b) ++ bytes_text bs
+-- bytes in decimal, each behind a space
+abbrev pub bytes_text : List ℕ → List ℕ
+bytes_text bs = flat_map (λ b. codes " " ++ decimal b) bs
 
 -- what is done with bytes at an address of a node
 abbrev pub data_text : List ℕ → ℕ → ℕ → List ℕ → List ℕ
@@ -33,9 +33,9 @@ item_text (read n a l) =
     (decimal n ++ (codes ", address " ++ (decimal a ++ (codes ", length " ++ (decimal l ++ codes "\n")))))
 item_text (write n a ds) = data_text (codes "write") n a ds
 
-unfoldable pub items_text : List Item → List ℕ
-items_text [] = []
-items_text (i ∷ is) = item_text i ++ items_text is
+-- the items, a line each
+abbrev pub items_text : List Item → List ℕ
+items_text is = flat_map item_text is
 
 -- ## Records
 
@@ -54,13 +54,11 @@ kind_name (reply b) = codes "reply"
 kind_name query = codes "query"
 kind_name settled = codes "settled"
 
-abbrev pub party_text : Party → List ℕ
-party_text (Node n) = codes "node " ++ decimal n
-party_text Coordinator = codes "coordinator"
-party_text (Recovery n) = codes "recovery " ++ decimal n
+abbrev pub yes_text : Bool → List ℕ
+yes_text b = cond b (codes "yes") (codes "no")
 
 abbrev pub flag_text : Bool → List ℕ
-flag_text b = cond b (codes ", yes\n") (codes ", no\n")
+flag_text b = codes ", " ++ (yes_text b ++ codes "\n")
 
 abbrev pub prepare_text : ℕ → List Item → List ℕ
 prepare_text ps is =

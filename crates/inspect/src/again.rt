@@ -1,6 +1,6 @@
 //! What was read, written again and compared.
 
-ghost use Rattle.std.specs.Prelude.{◌≡◌, true, ◌++◌, IfOk, string_bytes, OnOk};
+ghost use Rattle.std.specs.Prelude.{◌≡◌, true, IfOk, Some};
 ghost use Rattle.model.specs.ItemFormat.{is_list};
 ghost use Rattle.model.specs.Requests.{encode_request};
 ghost use Rattle.model.specs.MessageFormat.{encode_message, is_body};
@@ -32,7 +32,7 @@ pub(crate) fn request_again(
     let list: Vec<Item<'_>> = items.collect(heap)?;
     let mut buffer = [0u8; LONGEST];
     match write_request(&mut buffer, list.as_slice()) {
-        Ok(length) => Ok(&buffer[0..length] == bytes),
+        Ok(length) => Ok(&buffer[..length] == bytes),
         Err(_) => Ok(false),
     }
 }
@@ -45,20 +45,23 @@ pub(crate) fn message_again(message: &Message<'_>, bytes: &[u8]) -> bool
 {
     let mut buffer = [0u8; LONGEST];
     match write_message(&mut buffer, message) {
-        Ok(length) => &buffer[0..length] == bytes,
+        Ok(length) => &buffer[..length] == bytes,
         Err(_) => false,
     }
 }
 
-/// Whether the bytes are the same.
-pub(crate) fn say_again(out: &mut String, same: bool) -> fmt::Result
-    ensures { OnOk result (string_bytes out.new ≡ string_bytes out.old ++ again_text same) }
-{
-    if same {
-        write!(out, "written again: the same bytes\n")?;
-        Ok(())
-    } else {
-        write!(out, "written again: other bytes\n")?;
-        Ok(())
+/// Whether what was written again is what was read, a line.
+#[derive(Clone, Copy)]
+pub(crate) struct Again(pub(crate) bool);
+
+impl fmt::Display for Again {
+    ghost output = { λ same. Some (again_text same.0) };
+
+    fn fmt<W: fmt::Write>(&self, f: &mut fmt::Formatter<W>) -> fmt::Result {
+        f.write_str(if self.0 {
+            "written again: the same bytes\n"
+        } else {
+            "written again: other bytes\n"
+        })
     }
 }

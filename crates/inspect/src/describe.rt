@@ -3,78 +3,68 @@
 ghost use Rattle.std.specs.Prelude.{◌≡◌, ◌++◌, is_some, IfOk, string_bytes, OnOk};
 ghost use Rattle.model.specs.Requests.{decode_request};
 ghost use Rattle.model.specs.MessageFormat.{decode_message};
-ghost use Rattle.inspect.specs.Words.{maybe_text, request_text, message_text, record_text, refused_text, line_text};
+ghost use Rattle.inspect.specs.Words.{maybe_text, request_text, message_text, record_text, line_text};
 
-use crate::again::{message_again, request_again, say_again};
-use crate::items::say_items;
-use crate::words::{say_body, say_header};
+use crate::again::{Again, message_again, request_again};
+use crate::items::ItemLines;
+use crate::words::MessageLines;
 use messages::reader::read_message;
 use model::refusal::Refusal;
 use records::request::read_request;
-use std::alloc::Global;
-use std::fmt;
+use std::alloc::{AllocError, Global};
 use text::hex::read_hex;
 use text::line::without_last;
 
 /// What is said of a line without its end: a carriage return that it ends with is dropped.
-pub(crate) fn describe(heap: Global, line: &[u8]) -> anyhow::Result<String>
+pub(crate) fn describe(heap: Global, line: &[u8]) -> Result<String, AllocError>
     ensures { IfOk result (λ said. string_bytes said ≡ line_text line.now) }
 {
     let digits = without_last(line, b'\r');
     let mut out = String::new(heap);
     match read_hex(heap, digits)? {
         Some(bytes) => say_record(heap, &mut out, bytes.as_slice())?,
-        None => say_refusal(&mut out)?,
+        None => writeln!(out, "{}", Refusal::Malformed)?,
     }
     Ok(out)
 }
 
-/// The bytes as a request, as a message, or as both; or that they are neither.
-fn say_record(heap: Global, out: &mut String, bytes: &[u8]) -> anyhow::Result<()>
+/// The bytes as a request, as a message, or as both; or the number of the refusal of what is no record.
+fn say_record(heap: Global, out: &mut String, bytes: &[u8]) -> Result<(), AllocError>
     ensures { OnOk result (string_bytes out.new ≡ string_bytes out.old ++ record_text (decode_request bytes.now) (decode_message bytes.now)) }
 {
     let is_request = say_request(heap, out, bytes)?;
     let is_message = say_message(out, bytes)?;
-    if is_request || is_message {
-        return Ok(());
+    if !is_request && !is_message {
+        writeln!(out, "{}", Refusal::Malformed)?;
     }
-    say_refusal(out)?;
-    Ok(())
-}
-
-/// The number of the refusal of what is no record.
-fn say_refusal(out: &mut String) -> fmt::Result
-    ensures { OnOk result (string_bytes out.new ≡ string_bytes out.old ++ refused_text) }
-{
-    let number = Refusal::Malformed.number();
-    write!(out, "{number}\n")?;
     Ok(())
 }
 
 /// The bytes as a request, and whether they are one.
-fn say_request(heap: Global, out: &mut String, bytes: &[u8]) -> anyhow::Result<bool>
+fn say_request(heap: Global, out: &mut String, bytes: &[u8]) -> Result<bool, AllocError>
     ensures { IfOk result (λ is. (is ≡ is_some (decode_request bytes.now)) × (string_bytes out.new ≡ string_bytes out.old ++ maybe_text request_text (decode_request bytes.now))) }
 {
     let Ok(items) = read_request(bytes) else {
         return Ok(false);
     };
-    let count = items.len();
-    write!(out, "request, items: {count}\n")?;
-    say_items(out, items)?;
-    let same = request_again(heap, items, bytes)?;
-    say_again(out, same)?;
+    let again = Again(request_again(heap, items, bytes)?);
+    write!(
+        out,
+        "request, items: {}\n{}{again}",
+        items.len(),
+        ItemLines(items)
+    )?;
     Ok(true)
 }
 
 /// The bytes as a message, and whether they are one.
-fn say_message(out: &mut String, bytes: &[u8]) -> Result<bool, fmt::Error>
+fn say_message(out: &mut String, bytes: &[u8]) -> Result<bool, AllocError>
     ensures { IfOk result (λ is. (is ≡ is_some (decode_message bytes.now)) × (string_bytes out.new ≡ string_bytes out.old ++ maybe_text message_text (decode_message bytes.now))) }
 {
     let Ok(message) = read_message(bytes) else {
         return Ok(false);
     };
-    say_header(out, &message)?;
-    say_body(out, &message.body)?;
-    say_again(out, message_again(&message, bytes))?;
+    let again = Again(message_again(&message, bytes));
+    write!(out, "{}{again}", MessageLines(message))?;
     Ok(true)
 }

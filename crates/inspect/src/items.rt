@@ -1,75 +1,76 @@
 //! Items in words.
 
-ghost use Rattle.std.specs.Prelude.{◌≡◌, ◌++◌, string_bytes, OnOk};
+ghost use Rattle.std.specs.Prelude.{Some};
 ghost use Rattle.records.specs.Meaning.{item_meaning};
 ghost use Rattle.records.specs.Cursor.{items_meaning};
-ghost use Rattle.inspect.specs.Words.{bytes_text, data_text, item_text, items_text};
+ghost use Rattle.inspect.specs.Words.{bytes_text, item_text, items_text};
 
 use records::item::Item;
 use records::items::Items;
 use std::fmt;
 
 /// Bytes in decimal, each behind a space.
-pub(crate) fn say_bytes(out: &mut String, bytes: &[u8]) -> fmt::Result
-    ensures { OnOk result (string_bytes out.new ≡ string_bytes out.old ++ bytes_text bytes.now) }
-{
-    for byte in bytes {
-        write!(out, " {byte}")?;
-    }
-    Ok(())
-}
+#[derive(Clone, Copy)]
+pub(crate) struct Decimals<'a>(pub(crate) &'a [u8]);
 
-/// What is done with bytes at an address of a node.
-fn say_data(out: &mut String, deed: &str, node: u8, address: u16, data: &[u8]) -> fmt::Result
-    ensures { OnOk result (string_bytes out.new ≡ string_bytes out.old ++ data_text deed.now node address «data».now) }
-{
-    write!(out, "  {deed} node {node}, address {address}:")?;
-    say_bytes(out, data)?;
-    write!(out, "\n")?;
-    Ok(())
+impl fmt::Display for Decimals<'_> {
+    ghost output = { λ bytes. Some (bytes_text bytes.0.now) };
+
+    fn fmt<W: fmt::Write>(&self, f: &mut fmt::Formatter<W>) -> fmt::Result {
+        for byte in self.0 {
+            write!(f, " {byte}")?;
+        }
+        Ok(())
+    }
 }
 
 /// One item, a line.
-pub(crate) fn say_item(out: &mut String, item: &Item<'_>) -> fmt::Result
-    ensures { OnOk result (string_bytes out.new ≡ string_bytes out.old ++ item_text (item_meaning item.now)) }
-{
-    match item {
-        Item::Compare {
-            node,
-            address,
-            data,
-        } => {
-            say_data(out, "compare", *node, *address, data)?;
-            Ok(())
-        }
-        Item::Read {
-            node,
-            address,
-            length,
-        } => {
-            write!(
-                out,
-                "  read node {node}, address {address}, length {length}\n"
-            )?;
-            Ok(())
-        }
-        Item::Write {
-            node,
-            address,
-            data,
-        } => {
-            say_data(out, "write", *node, *address, data)?;
-            Ok(())
+#[derive(Clone, Copy)]
+struct ItemLine<'a>(Item<'a>);
+
+impl fmt::Display for ItemLine<'_> {
+    ghost output = { λ line. Some (item_text (item_meaning line.0)) };
+
+    fn fmt<W: fmt::Write>(&self, f: &mut fmt::Formatter<W>) -> fmt::Result {
+        match self.0 {
+            Item::Compare {
+                node,
+                address,
+                data,
+            } => writeln!(
+                f,
+                "  compare node {node}, address {address}:{}",
+                Decimals(data)
+            ),
+            Item::Read {
+                node,
+                address,
+                length,
+            } => writeln!(f, "  read node {node}, address {address}, length {length}"),
+            Item::Write {
+                node,
+                address,
+                data,
+            } => writeln!(
+                f,
+                "  write node {node}, address {address}:{}",
+                Decimals(data)
+            ),
         }
     }
 }
 
 /// The items to come, a line each.
-pub(crate) fn say_items(out: &mut String, items: Items<'_>) -> fmt::Result
-    ensures { OnOk result (string_bytes out.new ≡ string_bytes out.old ++ items_text (items_meaning items.entry)) }
-{
-    for item in items {
-        say_item(out, &item)?;
+#[derive(Clone, Copy)]
+pub(crate) struct ItemLines<'a>(pub(crate) Items<'a>);
+
+impl fmt::Display for ItemLines<'_> {
+    ghost output = { λ lines. Some (items_text (items_meaning lines.0)) };
+
+    fn fmt<W: fmt::Write>(&self, f: &mut fmt::Formatter<W>) -> fmt::Result {
+        for item in self.0 {
+            write!(f, "{}", ItemLine(item))?;
+        }
+        Ok(())
     }
-    Ok(())
 }

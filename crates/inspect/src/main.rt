@@ -9,7 +9,6 @@ mod words;
 
 use describe::describe;
 use std::io::{BufRead, BufReader};
-use text::line::without_last;
 
 fn main(rt: HostRuntime) -> anyhow::Result<()> {
     run(&rt)
@@ -18,15 +17,8 @@ fn main(rt: HostRuntime) -> anyhow::Result<()> {
 /// Answers line by line, to the end of the input.
 fn run(rt: &HostRuntime) -> anyhow::Result<()> {
     let heap = rt.alloc();
-    let mut input = BufReader::new(heap, rt.stdin())?;
-    let mut line = Vec::new(heap);
-    for _ in 0..u64::MAX {
-        line.clear();
-        if input.read_until(b'\n', &mut line)? == 0 {
-            break;
-        }
-        let said = describe(heap, without_last(line.as_slice(), b'\n'))?;
-        rt.print(said)?;
+    for line in BufReader::new(heap, rt.stdin())?.split(heap, b'\n') {
+        rt.print(describe(heap, line?.as_slice())?)?;
     }
     Ok(())
 }

@@ -1,15 +1,11 @@
 //! Messages in words.
 
-ghost use Rattle.std.specs.Prelude.{◌≡◌, ◌++◌, string_bytes, OnOk};
-ghost use Rattle.records.specs.Cursor.{items_meaning};
+ghost use Rattle.std.specs.Prelude.{◌≡◌, ◌++◌, Some};
 ghost use Rattle.messages.specs.Meaning.{body_meaning, message_meaning};
-ghost use Rattle.inspect.specs.Words.{kind_name, party_text, flag_text, prepare_text, voted_text, body_text, header_text};
+ghost use Rattle.inspect.specs.Words.{kind_name, yes_text, body_text, header_text};
 
-use crate::items::{say_bytes, say_items};
+use crate::items::{Decimals, ItemLines};
 use messages::message::{Body, Message};
-use model::party::Party;
-use model::vote::Vote;
-use records::items::Items;
 use std::fmt;
 
 /// The name of a message's kind.
@@ -27,100 +23,59 @@ fn kind_name(body: &Body<'_>) -> &'static str
     }
 }
 
-/// A sender or receiver.
-fn say_party(out: &mut String, party: Party) -> fmt::Result
-    ensures { OnOk result (string_bytes out.new ≡ string_bytes out.old ++ party_text party) }
-{
-    match party {
-        Party::Node(number) => {
-            write!(out, "node {number}")?;
-            Ok(())
-        }
-        Party::Coordinator => {
-            write!(out, "coordinator")?;
-            Ok(())
-        }
-        Party::Recovery(number) => {
-            write!(out, "recovery {number}")?;
-            Ok(())
-        }
-    }
-}
-
-/// The kind, the tid, the sender and the receiver.
-pub(crate) fn say_header(out: &mut String, message: &Message<'_>) -> fmt::Result
-    ensures { OnOk result (string_bytes out.new ≡ string_bytes out.old ++ header_text (message_meaning message.now)) }
-{
-    let kind = kind_name(&message.body);
-    let tid = message.header.tid;
-    write!(out, "message {kind}, tid {tid}, from ")?;
-    say_party(out, message.header.sender)?;
-    write!(out, ", to ")?;
-    say_party(out, message.header.receiver)?;
-    Ok(())
-}
-
 /// Yes or no.
-fn say_flag(out: &mut String, yes: bool) -> fmt::Result
-    ensures { OnOk result (string_bytes out.new ≡ string_bytes out.old ++ flag_text yes) }
+fn yes_or_no(yes: bool) -> &'static str
+    ensures { result.now ≡ yes_text yes }
 {
-    if yes {
-        write!(out, ", yes\n")?;
-        Ok(())
-    } else {
-        write!(out, ", no\n")?;
-        Ok(())
-    }
-}
-
-/// The participants and the items of a prepare.
-fn say_prepare(out: &mut String, participants: u8, items: Items<'_>) -> fmt::Result
-    ensures { OnOk result (string_bytes out.new ≡ string_bytes out.old ++ prepare_text participants (items_meaning items.entry)) }
-{
-    let count = items.len();
-    write!(out, ", participants {participants}, items: {count}\n")?;
-    say_items(out, items)?;
-    Ok(())
-}
-
-/// A vote and the bytes that were read.
-fn say_vote(out: &mut String, vote: Vote, reads: &[u8]) -> fmt::Result
-    ensures { OnOk result (string_bytes out.new ≡ string_bytes out.old ++ voted_text vote reads.now) }
-{
-    let number = vote.number();
-    write!(out, ", vote {number}, reads:")?;
-    say_bytes(out, reads)?;
-    write!(out, "\n")?;
-    Ok(())
+    if yes { "yes" } else { "no" }
 }
 
 /// What a message says, to the end of its lines.
-pub(crate) fn say_body(out: &mut String, body: &Body<'_>) -> fmt::Result
-    ensures { OnOk result (string_bytes out.new ≡ string_bytes out.old ++ body_text (body_meaning body.now)) }
-{
-    match body {
-        Body::Prepare {
-            participants,
-            items,
-        } => {
-            say_prepare(out, *participants, *items)?;
-            Ok(())
+#[derive(Clone, Copy)]
+struct BodyLines<'a>(Body<'a>);
+
+impl fmt::Display for BodyLines<'_> {
+    ghost output = { λ lines. Some (body_text (body_meaning lines.0)) };
+
+    fn fmt<W: fmt::Write>(&self, f: &mut fmt::Formatter<W>) -> fmt::Result {
+        match self.0 {
+            Body::Prepare {
+                participants,
+                items,
+            } => {
+                writeln!(f, ", participants {participants}, items: {}", items.len())?;
+                write!(f, "{}", ItemLines(items))
+            }
+            Body::Vote { vote, reads } => writeln!(
+                f,
+                ", vote {}, reads:{}",
+                u8::from(vote),
+                Decimals(reads)
+            ),
+            Body::Finish { committed } => writeln!(f, ", {}", yes_or_no(committed)),
+            Body::Reply { stands } => writeln!(f, ", {}", yes_or_no(stands)),
+            Body::Inquiry | Body::Query | Body::Settled => writeln!(f),
         }
-        Body::Vote { vote, reads } => {
-            say_vote(out, *vote, reads)?;
-            Ok(())
-        }
-        Body::Finish { committed } => {
-            say_flag(out, *committed)?;
-            Ok(())
-        }
-        Body::Reply { stands } => {
-            say_flag(out, *stands)?;
-            Ok(())
-        }
-        _ => {
-            write!(out, "\n")?;
-            Ok(())
-        }
+    }
+}
+
+/// A message: its kind, tid, sender and receiver, and what it says.
+#[derive(Clone, Copy)]
+pub(crate) struct MessageLines<'a>(pub(crate) Message<'a>);
+
+impl fmt::Display for MessageLines<'_> {
+    ghost output = { λ lines. Some (header_text (message_meaning lines.0) ++ body_text (message_meaning lines.0).body) };
+
+    fn fmt<W: fmt::Write>(&self, f: &mut fmt::Formatter<W>) -> fmt::Result {
+        let Message { header, body } = self.0;
+        let kind = kind_name(&body);
+        write!(
+            f,
+            "message {kind}, tid {}, from {}, to {}{}",
+            header.tid,
+            header.sender,
+            header.receiver,
+            BodyLines(body)
+        )
     }
 }

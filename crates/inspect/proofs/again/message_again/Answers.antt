@@ -1,5 +1,5 @@
 -- A message that was read has a form and room, and is written with the bytes that it was read from.
-use Rattle.std.proofs.Common.{◌≡◌, ◌-◌, ◌≤◌, length, take, replicate, Ok, ap, ◌∙◌, arith}
+use Rattle.std.proofs.Common.{◌≡◌, ◌≤◌, length, take, replicate, Ok, ◌∙◌, arith}
 use Rattle.std.proofs.lemmas.Slice.Eq.{slice_eq-Decides}
 use Rattle.model.specs.MessageFormat.{encode_message, is_body}
 use Rattle.model.proofs.ReadsBack.{written_take}
@@ -15,8 +15,7 @@ returns-in-Ok c =
     in let n = c.in-Ok.length
     in let after = c.write_message.new.buffer
     in let whole = written_take (is_body m.body) (encode_message m) (replicate 192 0) after (Ok n) c.in-Ok.ensures.value
-    in let all : n - 0 ≡ n = omega arith
-    in let same : take (n - 0) after ≡ c.args.bytes.now = ap (λ k. take k after) all ∙ whole.1 ∙ c.requires.bytes
+    in let same : take n after ≡ c.args.bytes.now = whole.1 ∙ c.requires.bytes
     in (slice_eq-Decides Decides-eqb _ _ _ c.eq.ensures).1 same
 
 pub returns-in-Err : goal.returns-in-Err

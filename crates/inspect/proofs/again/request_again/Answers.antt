@@ -1,5 +1,5 @@
 -- A request that was read has a form and room, and is written with the bytes that it was read from.
-use Rattle.std.proofs.Common.{◌≡◌, ◌-◌, ◌≤◌, true, List, map, length, take, replicate, Ok, ap, ◌∙◌, arith}
+use Rattle.std.proofs.Common.{◌≡◌, ◌≤◌, true, List, map, length, take, replicate, Ok, ap, ◌∙◌, arith}
 use Rattle.std.proofs.lemmas.Slice.Eq.{slice_eq-Decides}
 use Rattle.std.proofs.lemmas.Iterator.Consumers.{map_from_collect, YieldsList-from_shown}
 use Rattle.std.specs.declared.alloc.AllocError.{AllocError}
@@ -22,9 +22,8 @@ returns-in-Ok c =
     in let n = c.in-Ok.length
     in let after = c.write_request.new.buffer
     in let whole = written_take (is_list is) (encode_request is) (replicate 192 0) after (Ok n) c.in-Ok.ensures.value
-    in let all : n - 0 ≡ n = omega arith
-    in let same : take (n - 0) after ≡ c.args.bytes.now =
-    ap (λ k. take k after) all ∙ whole.1 ∙ ap encode_request items ∙ c.requires.bytes
+    in let same : take n after ≡ c.args.bytes.now =
+    whole.1 ∙ ap encode_request items ∙ c.requires.bytes
     in (slice_eq-Decides Decides-eqb _ _ _ c.eq.ensures).1 same
 
 pub returns : goal.returns
