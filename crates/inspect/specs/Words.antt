@@ -10,6 +10,7 @@ use Rattle.model.specs.Refusals.{refusal_number}
 use Rattle.model.specs.Votes.{vote_number}
 use Rattle.model.specs.Requests.{decode_request}
 use Rattle.model.specs.MessageFormat.{decode_message}
+use Rattle.messages.specs.Kinds.{kind_text, body_kind}
 use Rattle.text.specs.Hex.{hex_bytes}
 use Rattle.text.specs.Lines.{without}
 
@@ -45,15 +46,6 @@ again_text same = cond same (codes "written again: the same bytes\n") (codes "wr
 abbrev pub request_text : List Item → List ℕ
 request_text is = ((codes "request, items: " ++ (decimal (length is) ++ codes "\n")) ++ items_text is) ++ again_text true
 
-abbrev pub kind_name : Body → List ℕ
-kind_name (prepare ps is) = codes "prepare"
-kind_name (voted v bs) = codes "vote"
-kind_name (finish b) = codes "finish"
-kind_name inquiry = codes "inquiry"
-kind_name (reply b) = codes "reply"
-kind_name query = codes "query"
-kind_name settled = codes "settled"
-
 abbrev pub yes_text : Bool → List ℕ
 yes_text b = cond b (codes "yes") (codes "no")
 
@@ -78,7 +70,7 @@ body_text settled = codes "\n"
 
 abbrev pub header_text : Message → List ℕ
 header_text m =
-    (((codes "message " ++ (kind_name m.body ++ (codes ", tid " ++ (decimal m.tid ++ codes ", from ")))) ++
+    (((codes "message " ++ (kind_text (body_kind m.body) ++ (codes ", tid " ++ (decimal m.tid ++ codes ", from ")))) ++
     party_text m.sender) ++
     codes ", to ") ++
     party_text m.receiver

@@ -2,26 +2,11 @@
 
 ghost use Rattle.std.specs.Prelude.{◌≡◌, ◌++◌, Some};
 ghost use Rattle.messages.specs.Meaning.{body_meaning, message_meaning};
-ghost use Rattle.inspect.specs.Words.{kind_name, yes_text, body_text, header_text};
+ghost use Rattle.inspect.specs.Words.{yes_text, body_text, header_text};
 
 use crate::items::{Decimals, ItemLines};
 use messages::message::{Body, Message};
 use std::fmt;
-
-/// The name of a message's kind.
-fn kind_name(body: &Body<'_>) -> &'static str
-    ensures { result.now ≡ kind_name (body_meaning body.now) }
-{
-    match body {
-        Body::Prepare { .. } => "prepare",
-        Body::Vote { .. } => "vote",
-        Body::Finish { .. } => "finish",
-        Body::Inquiry => "inquiry",
-        Body::Reply { .. } => "reply",
-        Body::Query => "query",
-        Body::Settled => "settled",
-    }
-}
 
 /// Yes or no.
 fn yes_or_no(yes: bool) -> &'static str
@@ -52,8 +37,11 @@ impl fmt::Display for BodyLines<'_> {
                 u8::from(vote),
                 Decimals(reads)
             ),
-            Body::Finish { committed } => writeln!(f, ", {}", yes_or_no(committed)),
-            Body::Reply { stands } => writeln!(f, ", {}", yes_or_no(stands)),
+            Body::Finish { committed: yes } | Body::Reply { stands: yes } => writeln!(
+                f,
+                ", {}",
+                yes_or_no(yes)
+            ),
             Body::Inquiry | Body::Query | Body::Settled => writeln!(f),
         }
     }
@@ -68,10 +56,10 @@ impl fmt::Display for MessageLines<'_> {
 
     fn fmt<W: fmt::Write>(&self, f: &mut fmt::Formatter<W>) -> fmt::Result {
         let Message { header, body } = self.0;
-        let kind = kind_name(&body);
         write!(
             f,
-            "message {kind}, tid {}, from {}, to {}{}",
+            "message {}, tid {}, from {}, to {}{}",
+            body.kind(),
             header.tid,
             header.sender,
             header.receiver,
