@@ -1,17 +1,11 @@
-//! The one test of a range against a length, and the copies out of a range and into it.
+//! The answer to a call for a range, and the copies out of a range and into it.
 
 ghost use Rattle.std.specs.Prelude.{◌≡◌, ℕ, ◌+◌, ◌≤◌, length, is_ok, if◌then◌else◌, vec_len, nat_le};
 ghost use Rattle.model.specs.Memory.{part, splice};
 ghost use Rattle.memory.specs.Ranges.{answer_of, answer_within};
 
+pub use model::range::fits;
 use model::refusal::Refusal;
-
-/// Whether `count` elements from `at` on lie within `len`, also where `at + count` passes the largest number.
-pub fn fits(len: usize, at: usize, count: usize) -> bool
-    ensures { result ≡ nat_le (at + count) len }
-{
-    at <= len && count <= len - at
-}
 
 /// The answer to a call for `count` elements from `at` on among `len`.
 pub fn check_range(len: usize, at: usize, count: usize) -> Result<(), Refusal>

@@ -10,6 +10,7 @@ pub mod numbers;
 pub mod outcome;
 pub mod participants;
 pub mod party;
+pub mod range;
 pub mod refusal;
 pub mod sanity;
 pub mod vote;

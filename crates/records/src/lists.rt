@@ -11,8 +11,9 @@ ghost use Rattle.records.specs.Extents.{list_extent, ItemsFit};
 
 use crate::item::Item;
 use crate::items::Items;
-use crate::writer::{fits, item_size, put, put_item};
+use crate::writer::{item_size, put, put_item};
 use model::numbers::MOST_ITEMS;
+use model::range::fits;
 
 /// How much an item list takes in a record.
 #[derive(Clone, Copy)]
@@ -38,7 +39,7 @@ pub fn put_list(buffer: &mut [u8], at: usize, items: Items<'_>)
     let Some(extent) = list_extent(items) else {
         return;
     };
-    if fits(buffer, at, extent.size) {
+    if fits(buffer.len(), at, extent.size) {
         put(buffer, at, &[extent.count]);
         put_items(buffer, at + 1, items);
     }

@@ -8,6 +8,7 @@ ghost use Rattle.records.specs.Extents.{has_room};
 
 use crate::item::{FIELDS, Item};
 use model::numbers::LONGEST_ITEM;
+use model::range::fits;
 
 // A buffer and a place go side by side: `put`, `put_one` and `put_list` promise that to callers, who begin anew at each part of a record, so a writer around both would be made at each call.
 
@@ -15,16 +16,9 @@ use model::numbers::LONGEST_ITEM;
 pub fn put(buffer: &mut [u8], at: usize, bytes: &[u8])
     ensures { buffer.new ≡ placed buffer.old at bytes.now }
 {
-    if fits(buffer, at, bytes.len()) {
+    if fits(buffer.len(), at, bytes.len()) {
         buffer[at..at + bytes.len()].copy_from_slice(bytes);
     }
-}
-
-/// Whether so many bytes fit into a buffer from a place on.
-pub(crate) fn fits(buffer: &[u8], at: usize, size: usize) -> bool
-    ensures { result ≡ nat_le (at + size) (length buffer.now) }
-{
-    at <= buffer.len() && size <= buffer.len() - at
 }
 
 /// The two bytes of a number, the higher first.
@@ -41,7 +35,7 @@ pub fn put_one(buffer: &mut [u8], at: usize, item: &Item<'_>) -> Option<usize>
     ensures bytes { buffer.new ≡ (if is_some result then splice buffer.old at (encode_item (item_meaning item.now)) else buffer.old) }
 {
     let size = item_size(item)?;
-    if !fits(buffer, at, size) {
+    if !fits(buffer.len(), at, size) {
         return None;
     }
     Some(put_item(buffer, at, item))
