@@ -1,6 +1,6 @@
 //! Looking up an entry of any journal by its tid.
 
-ghost use Rattle.std.specs.Prelude.{◌≡◌, ℕ, is_some, IfSome, if◌then◌else◌, Some, None};
+ghost use Rattle.std.specs.Prelude.{◌≡◌, is_some, IfSome, if◌then◌else◌, Some, None};
 ghost use Rattle.std.specs.Option.{option_map};
 ghost use Rattle.model.specs.Lists.{place};
 ghost use Rattle.model.specs.Journal.{tid_of, has_entry, entry_of};

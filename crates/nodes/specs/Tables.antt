@@ -1,5 +1,5 @@
 -- What the tables of a node stand for.
-use Rattle.std.specs.Prelude.{ℕ, cond, List, [], map, Some, None, Option, slice_index_or}
+use Rattle.std.specs.Prelude.{ℕ, cond, List, map, Some, None, Option, slice_index_or}
 use Rattle.model.specs.Lists.{place, stands}
 use Rattle.model.specs.Node.{Doubt as PlainDoubt, Unresolved as PlainUnresolved}
 use Rattle.records.specs.ItemSets.{set_items}
@@ -15,10 +15,6 @@ doubt_meaning d = record { tid = d.tid; participants = d.participants; items = s
 abbrev pub doubts_meaning : Table Doubt → List PlainDoubt
 doubts_meaning t = map doubt_meaning (standing t)
 
--- the value that stands for a record past the end of a slice
-abbrev pub no_record : Doubt
-no_record = record { tid = 0; participants = 0; items = record { count = 0; bytes = [] } }
-
 -- ## Unresolved entries
 
 abbrev pub unresolved_meaning : Unresolved → PlainUnresolved
@@ -27,10 +23,6 @@ unresolved_meaning u = record { tid = u.tid; participants = u.participants; agre
 -- the unresolved entries, in order
 abbrev pub unresolveds_meaning : Table Unresolved → List PlainUnresolved
 unresolveds_meaning t = map unresolved_meaning (standing t)
-
--- the value that stands for a record past the end of a slice
-abbrev pub no_finding : Unresolved
-no_finding = record { tid = 0; participants = 0; agreed = []; resolution = None }
 
 -- ## Looking up by number
 

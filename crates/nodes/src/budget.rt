@@ -1,6 +1,6 @@
 //! Write budgets: after how many durable writes power fails in a call.
 
-ghost use Rattle.std.specs.Prelude.{◌≡◌, not};
+ghost use Rattle.std.specs.Prelude.{◌≡◌};
 ghost use Rattle.model.specs.Writes.{fails as is_limited};
 ghost use Rattle.nodes.specs.Budgets.{spent, allows};
 

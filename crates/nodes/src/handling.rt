@@ -1,11 +1,11 @@
 //! What a node does with each kind of message, write by write as far as the budget goes.
 
-ghost use Rattle.std.specs.Prelude.{◌≡◌, ℕ, [], if◌then◌else◌, Some, None};
+ghost use Rattle.std.specs.Prelude.{◌≡◌, if◌then◌else◌, Some, None};
 ghost use Rattle.model.specs.Handling.{queried, acknowledged as acknowledging, replied, inquired, is_settled, is_oldest};
 ghost use Rattle.std.specs.Option.{option_map};
 ghost use Rattle.model.specs.Journal.{is_empty, has_entry, is_forced_full, oldest as oldest_of};
 ghost use Rattle.journal.specs.Entries.{entry_meaning};
-ghost use Rattle.nodes.specs.Effects.{Done, Reacts};
+ghost use Rattle.nodes.specs.Effects.{Reacts};
 ghost use Rattle.nodes.specs.Nodes.{volatile_meaning, node_meaning};
 ghost use Rattle.nodes.specs.Responses.{sent_meaning};
 

@@ -1,6 +1,6 @@
 //! What a vote carries: the bytes that a minitransaction reads at one node.
 
-ghost use Rattle.std.specs.Prelude.{◌≡◌, ◌+◌, ◌*◌, ◌≤◌, true, [], ◌++◌, length};
+ghost use Rattle.std.specs.Prelude.{◌≡◌, ◌+◌, ◌≤◌, true, [], ◌++◌, length};
 ghost use Rattle.model.specs.Cells.{read_at};
 ghost use Rattle.model.specs.ItemFormat.{is_item};
 ghost use Rattle.model.specs.Numbers.{longest_item, most_items, most_reads};

@@ -1,7 +1,5 @@
 //! What a node answers to a message.
 
-ghost use Rattle.std.specs.Prelude.{◌≡◌};
-
 use crate::reads::Reads;
 use model::party::Party;
 use model::vote::Vote;
