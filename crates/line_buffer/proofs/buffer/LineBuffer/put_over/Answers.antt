@@ -1,10 +1,10 @@
-use Rattle.std.proofs.Common.{◌≡◌, ℕ, ◌/◌, true, false, cond, [], ◌∷◌, ◌++◌, length, is_ok, vec_items, ap, ◌∙◌, arith}
+use Rattle.std.proofs.Common.{◌≡◌, ℕ, ◌/◌, true, false, length, is_ok, vec_items, ap, ◌∙◌, arith}
 use Rattle.std.specs.List.{remove}
 use Rattle.std.proofs.lemmas.List.{length-map}
 use Rattle.std.proofs.lemmas.Bool.{or_parts, ltb-false, cond-true, le-leb}
 use Rattle.model.specs.Memory.{splice}
 use Rattle.line_buffer.specs.declared.lines.HeldLines.{HeldLines}
-use Rattle.line_buffer.specs.Lines.{line_bytes, most_lines, line_number, numbers, member, held_at, written, takes}
+use Rattle.line_buffer.specs.Lines.{numbers_with, line_bytes, most_lines, line_number, numbers, member, held_at, written, takes}
 use Rattle.line_buffer.proofs.Put.{put_over, put_through, room_made}
 use Rattle.line_buffer.proofs.buffer.LineBuffer.put_over.Goals as goal
 
@@ -35,8 +35,8 @@ returns-in-Some-clause-back g c =
     let e = c.evict.ensures.lines in
     let h : (k : ℕ) → held_at ls' k ≡ written (held_at (remove ls i)) a ys k =
     λ k. c.hold.ensures.held k ∙ ap (λ zs. written (held_at zs) a ys k) e in
-    let n : numbers ls' ≡ cond (member (a / line_bytes) (numbers (remove ls i))) (numbers (remove ls i)) (numbers (remove ls i) ++ a / line_bytes ∷ []) =
-    c.hold.ensures.numbers ∙ ap (λ zs. cond (member (a / line_bytes) (numbers zs)) (numbers zs) (numbers zs ++ a / line_bytes ∷ [])) e in
+    let n : numbers ls' ≡ numbers_with (numbers (remove ls i)) (a / line_bytes) =
+    c.hold.ensures.numbers ∙ ap (λ zs. numbers_with (numbers zs) (a / line_bytes)) e in
     put_over ls xs a ys c.args.piece.inside i held.distinct c.in-Some.ensures.0 p.0 p.1 c.args.last (rw c.number.ensures at c.in-Some.ensures.1) (g.M.Memory.bytes c.evict.new.self.below) ls' c.evict.ensures.bytes h n
 
 pub returns-in-None-clause-back : goal.returns-in-None-clause-back
