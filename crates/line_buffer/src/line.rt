@@ -38,6 +38,7 @@ impl Line {
         ensures cells { result.cells ≡ splice self.cells offset (map Some from.now) }
         ensures width { length self.cells ≡ line_bytes }
     {
+        // By index: after a `zip` of `iter_mut` the check knows how many cells there are, not what was written.
         for (i, b) in from.iter().enumerate() {
             self.cells[offset + i] = Some(*b);
         }
@@ -60,6 +61,7 @@ impl Line {
         }
     }
 
+    // Beside `lay`: one walk for both is a trait with two impls for three lines, and a memory promises more.
     /// Writes the written bytes to the memory below.
     pub(crate) fn write_back<M: Memory>(self, below: &mut M)
         ensures bytes { M.bytes below.new ≡ laid 0 (cell_at self) (M.bytes below.old) }
