@@ -1,9 +1,9 @@
 -- Laws of `member` and `apart`: one more number at the end, and one taken out.
-use Rattle.std.proofs.Common.{◌≡◌, ℕ, zero, suc, ◌<◌, true, false, cond, not, ◌||◌, eqb, List, [], ◌∷◌, ◌++◌, length, get_or, take, sym, refl, ap, ◌∙◌, ⊎_elim, arith}
+use Rattle.std.proofs.Common.{◌≡◌, ℕ, zero, suc, ◌<◌, true, false, not, ◌||◌, eqb, List, [], ◌∷◌, ◌++◌, length, get_or, take, sym, refl, ap, ◌∙◌, ⊎_elim, arith}
 use Rattle.std.specs.List.{remove}
 use Rattle.std.proofs.Math.Bool.{or-false}
 use Rattle.std.proofs.lemmas.Bool.{and_parts, and_from, or_parts, or_from, or_left, or_right, not-true, not_from_false, eqb-false, eq-eqb, ne_eqb, both_ways, cases_Bool, cond-true, cond-false}
-use Rattle.line_buffer.specs.Lines.{member, apart}
+use Rattle.line_buffer.specs.Lines.{numbers_with, member, apart}
 
 pub member_none : (n : ℕ) → member n [] ≡ false
 unfolding member
@@ -46,7 +46,7 @@ apart_push (k ∷ ms) m a o =
     and_from _ _ (not_from_false _ w) (apart_push ms m p.1 q.1)
 
 -- a number that is added only where it is missing
-pub apart_added : (ms ks : List ℕ) (m : ℕ) → apart ms ≡ true → ks ≡ cond (member m ms) ms (ms ++ m ∷ []) → apart ks ≡ true
+pub apart_added : (ms ks : List ℕ) (m : ℕ) → apart ms ≡ true → ks ≡ numbers_with ms m → apart ks ≡ true
 apart_added ms ks m a e =
     ⊎_elim
     (λ (t : member m ms ≡ true). ap apart (e ∙ cond-true _ _ _ t) ∙ a)

@@ -4,7 +4,7 @@ use Rattle.std.proofs.lemmas.List.{take-map, take_more, get_or-map, map-set, map
 use Rattle.std.proofs.lemmas.Bool.{cases_eq, cond-true, cond-false, eq-eqb, ne_eqb}
 use Rattle.model.specs.Memory.{splice}
 use Rattle.line_buffer.specs.declared.line.Line.{Line}
-use Rattle.line_buffer.specs.Lines.{line_bytes, line_number, numbers, member, apart, cell_at, held_at, written}
+use Rattle.line_buffer.specs.Lines.{numbers_with, line_bytes, line_number, numbers, member, apart, cell_at, held_at, written}
 use Rattle.line_buffer.proofs.Distinct.{get_or_member, member_take}
 use Rattle.line_buffer.proofs.Held.{held_at_none, held_at_at, held_at_set, held_at_push, get_or_numbers}
 use Rattle.line_buffer.proofs.Cells.{written_line}
@@ -19,7 +19,7 @@ module _ (ls : List Line) (a : ℕ) (bs : List ℕ) (fit : a % line_bytes + leng
       ∙ written_line (held_at ls) l.cells a bs k w fit
       (λ d. held_at_at ls i l k ap' h r (eq-eqb l.number (k / line_bytes) (q ∙ d)))
 
-  pub numbers_found : (i : ℕ) (l l' : Line) → i < length ls → l ≡ get_or ls i l → l.number ≡ a / line_bytes → l'.number ≡ l.number → numbers (set ls i l') ≡ cond (member (a / line_bytes) (numbers ls)) (numbers ls) (numbers ls ++ a / line_bytes ∷ [])
+  pub numbers_found : (i : ℕ) (l l' : Line) → i < length ls → l ≡ get_or ls i l → l.number ≡ a / line_bytes → l'.number ≡ l.number → numbers (set ls i l') ≡ numbers_with (numbers ls) (a / line_bytes)
   numbers_found i l l' h r q n =
       let g = get_or_numbers ls i l h r in
       let t : member (a / line_bytes) (numbers ls) ≡ true =
@@ -34,7 +34,7 @@ module _ (ls : List Line) (a : ℕ) (bs : List ℕ) (fit : a % line_bytes + leng
       ∙ written_line (held_at ls) (replicate 16 None) a bs k refl fit
       (λ d. held_at_none ls k (ap (λ m. member m (numbers ls)) (sym d) ∙ o) ∙ sym (get_or-replicate 16 (k % line_bytes) None None (omega arith)))
 
-  pub numbers_fresh : (l' : Line) → member (a / line_bytes) (numbers ls) ≡ false → l'.number ≡ a / line_bytes → numbers (ls ++ l' ∷ []) ≡ cond (member (a / line_bytes) (numbers ls)) (numbers ls) (numbers ls ++ a / line_bytes ∷ [])
+  pub numbers_fresh : (l' : Line) → member (a / line_bytes) (numbers ls) ≡ false → l'.number ≡ a / line_bytes → numbers (ls ++ l' ∷ []) ≡ numbers_with (numbers ls) (a / line_bytes)
   numbers_fresh l' o n =
       map-append line_number ls (l' ∷ []) ∙ ap (λ m. numbers ls ++ m ∷ []) n ∙ sym (cond-false _ _ _ o)
 

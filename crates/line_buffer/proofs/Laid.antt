@@ -3,7 +3,7 @@ use Rattle.std.proofs.Common.{◌≡◌, ℕ, zero, suc, ◌+◌, ◌-◌, ◌*�
 use Rattle.std.proofs.lemmas.List.{ext_get_or, length-set, get_or-set_same, get_or-set_other}
 use Rattle.std.proofs.lemmas.Bool.{cases_eq, cases_lt, cond-true, cond-false, eq-eqb, ne_eqb, lt-ltb, le-ltb}
 use Rattle.line_buffer.specs.declared.line.Line.{Line}
-use Rattle.line_buffer.specs.Lines.{line_bytes, cell_at, cells_below, laid}
+use Rattle.line_buffer.specs.Lines.{only_at, line_bytes, cell_at, cells_below, laid}
 
 -- nothing is held, whichever way a test goes
 pub cond_none : (b : Bool) → cond {A = Option ℕ} b None None ≡ None
@@ -53,9 +53,9 @@ pub laid_same : (a : ℕ) (f h : ℕ → Option ℕ) (xs : List ℕ) → ((k : �
 laid_same a f h xs e = laid_is a h xs (laid a f xs) (length_laid a f xs) (λ k l. get_or_laid a f xs k l ∙ ap (λ v. unwrap_or v (get_or xs k 0)) (e (a + k)))
 
 -- one byte is held: within the bytes, and outside them
-pub laid_one : (a p b : ℕ) (xs : List ℕ) → a ≤ p → p - a < length xs → set xs (p - a) b ≡ laid a (λ k. cond (eqb k p) (Some b) None) xs
+pub laid_one : (a p b : ℕ) (xs : List ℕ) → a ≤ p → p - a < length xs → set xs (p - a) b ≡ laid a (only_at p (Some b)) xs
 laid_one a p b xs le lt =
-    laid_is a (λ k. cond (eqb k p) (Some b) None) xs (set xs (p - a) b) (length-set xs (p - a) b)
+    laid_is a (only_at p (Some b)) xs (set xs (p - a) b) (length-set xs (p - a) b)
     (λ k l. ⊎_elim
     (λ (e : a + k ≡ p).
     let z : k ≡ p - a = omega arith in
@@ -66,13 +66,13 @@ laid_one a p b xs le lt =
     get_or-set_other xs (p - a) k b 0 z ∙ sym (ap (λ v. unwrap_or v (get_or xs k 0)) (cond-false _ _ _ (ne_eqb _ _ e))))
     (cases_eq (a + k) p))
 
-pub laid_one_outside : (a p : ℕ) (v : Option ℕ) (xs : List ℕ) → (a ≤ p → p - a < length xs → ⊥) → xs ≡ laid a (λ k. cond (eqb k p) v None) xs
+pub laid_one_outside : (a p : ℕ) (v : Option ℕ) (xs : List ℕ) → (a ≤ p → p - a < length xs → ⊥) → xs ≡ laid a (only_at p v) xs
 laid_one_outside a p v xs o =
-    laid_is a (λ k. cond (eqb k p) v None) xs xs refl
+    laid_is a (only_at p v) xs xs refl
     (λ k l. let z : a + k ≡ p → ⊥ = λ w. o (omega arith) (omega arith) in
     sym (ap (λ w. unwrap_or w (get_or xs k 0)) (cond-false _ _ _ (ne_eqb _ _ z))))
 
-pub laid_one_none : (a p : ℕ) (xs : List ℕ) → xs ≡ laid a (λ k. cond (eqb k p) None None) xs
+pub laid_one_none : (a p : ℕ) (xs : List ℕ) → xs ≡ laid a (only_at p None) xs
 laid_one_none a p xs = laid_nothing a _ xs (λ k. cond_none (eqb k p))
 
 -- the cells of a line, one after the other; the address of the cell c is p

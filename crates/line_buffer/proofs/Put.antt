@@ -1,5 +1,5 @@
 -- One line of a write: nothing yet, held where it has a place, in the place of another line, or sent back at once.
-use Rattle.std.proofs.Common.{◌≡◌, ℕ, ◌+◌, ◌/◌, ◌%◌, ◌<◌, ◌≤◌, true, false, cond, ◌||◌, eqb, ◌⊎◌, List, [], ◌∷◌, ◌++◌, length, get_or, None, Option, unwrap_or, sym, refl, ap, ◌∙◌, subst, ⊎_elim, arith}
+use Rattle.std.proofs.Common.{◌≡◌, ℕ, ◌+◌, ◌/◌, ◌%◌, ◌<◌, ◌≤◌, true, false, cond, ◌||◌, eqb, ◌⊎◌, List, [], ◌∷◌, length, get_or, None, Option, unwrap_or, sym, refl, ap, ◌∙◌, subst, ⊎_elim, arith}
 use Rattle.std.specs.List.{remove}
 use Rattle.std.proofs.Math.Bool.{or-false}
 use Rattle.std.proofs.lemmas.List.{length-append, length-map}
@@ -8,7 +8,7 @@ use Rattle.std.proofs.lemmas.Bool.{cases_eq, cases_Bool, both_ways, lt-ltb, cond
 use Rattle.model.specs.Memory.{splice}
 use Rattle.model.proofs.Splices.{length_splice, get_or_splice_below, get_or_splice_inside, get_or_splice_above}
 use Rattle.line_buffer.specs.declared.line.Line.{Line}
-use Rattle.line_buffer.specs.Lines.{line_bytes, most_lines, line_number, numbers, member, apart, held_at, laid, written, takes, Wrote}
+use Rattle.line_buffer.specs.Lines.{numbers_with, line_bytes, most_lines, line_number, numbers, member, apart, held_at, laid, written, takes, Wrote}
 use Rattle.line_buffer.proofs.Distinct.{get_or_member, member_none, member_one, member_push, member_removed_other, member_removed_less}
 use Rattle.line_buffer.proofs.Held.{held_at_none, held_at_removed, numbers_removed}
 use Rattle.line_buffer.proofs.Laid.{laid_from_is, laid_nothing, laid_same}
@@ -43,7 +43,7 @@ wrote_none ls xs a last = (
 
 module _ (ls : List Line) (a : ℕ) where
   -- the number of lines before and after
-  counted : (ls' : List Line) → numbers ls' ≡ cond (member (a / line_bytes) (numbers ls)) (numbers ls) (numbers ls ++ a / line_bytes ∷ []) → length ls' ≡ length ls + cond (member (a / line_bytes) (numbers ls)) 0 1
+  counted : (ls' : List Line) → numbers ls' ≡ numbers_with (numbers ls) (a / line_bytes) → length ls' ≡ length ls + cond (member (a / line_bytes) (numbers ls)) 0 1
   counted ls' e =
       let n = length-map ls line_number in
       let n' = length-map ls' line_number in
@@ -56,7 +56,7 @@ module _ (ls : List Line) (a : ℕ) where
       sym n' ∙ z ∙ ap (λ v. v + 1) n ∙ sym (ap (λ v. length ls + v) (cond-false _ _ _ t)))
       (cases_Bool (member (a / line_bytes) (numbers ls)))
 
-  others : (ls' : List Line) → numbers ls' ≡ cond (member (a / line_bytes) (numbers ls)) (numbers ls) (numbers ls ++ a / line_bytes ∷ []) → (j : ℕ) → (j ≡ a / line_bytes → ⊥) → member j (numbers ls') ≡ member j (numbers ls)
+  others : (ls' : List Line) → numbers ls' ≡ numbers_with (numbers ls) (a / line_bytes) → (j : ℕ) → (j ≡ a / line_bytes → ⊥) → member j (numbers ls') ≡ member j (numbers ls)
   others ls' e j ne =
       ⊎_elim
       (λ (t : member (a / line_bytes) (numbers ls) ≡ true). ap (member j) (e ∙ cond-true _ _ _ t))
@@ -66,7 +66,7 @@ module _ (ls : List Line) (a : ℕ) where
 
 module _ (ls : List Line) (xs : List ℕ) (a : ℕ) (ys : List ℕ) (fit : a % line_bytes + length ys ≤ line_bytes) where
   -- the line has a place
-  pub put_held : (ls' : List Line) → ((k : ℕ) → held_at ls' k ≡ written (held_at ls) a ys k) → numbers ls' ≡ cond (member (a / line_bytes) (numbers ls)) (numbers ls) (numbers ls ++ a / line_bytes ∷ []) → (last : ℕ) → Wrote ls xs a ys 1 last ls' xs
+  pub put_held : (ls' : List Line) → ((k : ℕ) → held_at ls' k ≡ written (held_at ls) a ys k) → numbers ls' ≡ numbers_with (numbers ls) (a / line_bytes) → (last : ℕ) → Wrote ls xs a ys 1 last ls' xs
   put_held ls' h e last = (
     record {
       gone = [];
@@ -128,10 +128,10 @@ module _ (ls : List Line) (xs : List ℕ) (a : ℕ) (ys : List ℕ) (fit : a % l
         or_right (member (a / line_bytes) (numbers (remove ls i))) _
         (lt-ltb (length (numbers (remove ls i))) most_lines (omega (arith, length-map (remove ls i) line_number, length-remove ls i lt)))
 
-    counted_removed : (ls' : List Line) → numbers ls' ≡ cond (member (a / line_bytes) (numbers (remove ls i))) (numbers (remove ls i)) (numbers (remove ls i) ++ a / line_bytes ∷ []) → length ls' ≡ length (remove ls i) + cond (member (a / line_bytes) (numbers (remove ls i))) 0 1
+    counted_removed : (ls' : List Line) → numbers ls' ≡ numbers_with (numbers (remove ls i)) (a / line_bytes) → length ls' ≡ length (remove ls i) + cond (member (a / line_bytes) (numbers (remove ls i))) 0 1
     counted_removed ls' e = counted (remove ls i) a ls' e
 
-    pub put_over : (last : ℕ) → ((v < a / line_bytes) ⊎ (last < v)) → (xs' : List ℕ) (ls' : List Line) → xs' ≡ laid 0 (λ k. cond (eqb v (k / line_bytes)) (held_at ls k) None) xs → ((k : ℕ) → held_at ls' k ≡ written (held_at (remove ls i)) a ys k) → numbers ls' ≡ cond (member (a / line_bytes) (numbers (remove ls i))) (numbers (remove ls i)) (numbers (remove ls i) ++ a / line_bytes ∷ []) → Wrote ls xs a ys 1 last ls' xs'
+    pub put_over : (last : ℕ) → ((v < a / line_bytes) ⊎ (last < v)) → (xs' : List ℕ) (ls' : List Line) → xs' ≡ laid 0 (λ k. cond (eqb v (k / line_bytes)) (held_at ls k) None) xs → ((k : ℕ) → held_at ls' k ≡ written (held_at (remove ls i)) a ys k) → numbers ls' ≡ numbers_with (numbers (remove ls i)) (a / line_bytes) → Wrote ls xs a ys 1 last ls' xs'
     put_over last w xs' ls' b h e =
         let off : (j : ℕ) → a / line_bytes + 1 ≤ j → j ≤ last → j ≡ v → ⊥ =
         λ j l u z. ⊎_elim (λ (h : v < a / line_bytes). omega arith) (λ (h : last < v). omega arith) w in

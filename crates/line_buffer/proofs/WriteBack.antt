@@ -4,7 +4,7 @@ use Rattle.std.proofs.lemmas.List.{set_split}
 use Rattle.std.proofs.lemmas.Bool.{cases_eq, cases_Bool, cond-true, cond-false, eq-eqb, ne_eqb, leb-true, leb-false}
 use Rattle.model.specs.Memory.{within, splice}
 use Rattle.line_buffer.specs.declared.line.Line.{Line}
-use Rattle.line_buffer.specs.Lines.{line_bytes, numbers, apart, cell_at, held_at, laid}
+use Rattle.line_buffer.specs.Lines.{only_at, line_bytes, numbers, apart, cell_at, held_at, laid}
 use Rattle.line_buffer.proofs.Held.{held_at_at, get_or_numbers}
 use Rattle.line_buffer.proofs.Laid.{cond_none, laid_one, laid_one_outside, laid_nothing}
 use Rattle.line_buffer.proofs.Hold.{held_at_no_lines}
@@ -12,7 +12,7 @@ use Rattle.line_buffer.proofs.Hold.{held_at_no_lines}
 pub splice_one : (xs : List ℕ) (p b : ℕ) → p < length xs → splice xs p (b ∷ []) ≡ set xs p b
 splice_one xs p b h = rw add-one (sym (set_split xs p b h))
 
-pub laid_write_one : {E : Type 0} (e : E) (xs ys : List ℕ) (p b : ℕ) (r : Result Unit E) → r ≡ cond (within xs p 1) (Ok tt) (Err e) → ys ≡ cond (is_ok r) (splice xs p (b ∷ [])) xs → ys ≡ laid 0 (λ k. cond (eqb k p) (Some b) None) xs
+pub laid_write_one : {E : Type 0} (e : E) (xs ys : List ℕ) (p b : ℕ) (r : Result Unit E) → r ≡ cond (within xs p 1) (Ok tt) (Err e) → ys ≡ cond (is_ok r) (splice xs p (b ∷ [])) xs → ys ≡ laid 0 (only_at p (Some b)) xs
 laid_write_one e xs ys p b r a w =
     ⊎_elim
     (λ (t : within xs p 1 ≡ true).

@@ -1,5 +1,5 @@
 -- Held lines: which byte they hold at an address, and what a write, and the lines that it sends back, make of them.
-use Rattle.std.specs.Prelude.{◌≡◌, ℕ, zero, suc, ◌+◌, ◌-◌, ◌/◌, ◌%◌, ◌<◌, ◌≤◌, Bool, true, false, cond, not, ◌&&◌, ◌||◌, List, [], ◌∷◌, map, length, is_some, Some, None, Option, ◌==◌, nat_lt, slice_index, slice_index_or}
+use Rattle.std.specs.Prelude.{◌≡◌, ℕ, zero, suc, ◌+◌, ◌-◌, ◌/◌, ◌%◌, ◌<◌, ◌≤◌, Bool, true, false, cond, not, ◌&&◌, ◌||◌, List, [], ◌∷◌, ◌++◌, map, length, is_some, Some, None, Option, ◌==◌, nat_lt, slice_index, slice_index_or}
 use Rattle.std.specs.Option.{unwrap_or}
 use Rattle.model.specs.Memory.{named}
 use Rattle.line_buffer.specs.declared.line.Line.{Line}
@@ -25,6 +25,14 @@ member n (m ∷ ms) = n == m || member n ms
 unfoldable pub apart : List ℕ → Bool
 apart [] = true
 apart (m ∷ ms) = not (member m ms) && apart ms
+
+-- the numbers once the line q is held
+abbrev pub numbers_with : List ℕ → ℕ → List ℕ
+numbers_with ns q = cond (member q ns) ns (ns ++ q ∷ [])
+
+-- what is held where all that is held is v, at the address p
+abbrev pub only_at : ℕ → Option ℕ → ℕ → Option ℕ
+only_at p v k = cond (k == p) v None
 
 -- the written byte that one line holds at an address
 abbrev pub cell_at : Line → ℕ → Option ℕ

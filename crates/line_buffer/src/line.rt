@@ -1,8 +1,8 @@
 //! One held line. The lines of a memory are numbered from 0, so that 4,096 bytes have the lines 0 to 255.
 
-ghost use Rattle.std.specs.Prelude.{◌≡◌, ◌+◌, ◌*◌, ◌≤◌, map, length, replicate, if◌then◌else◌, Some, None, nat_eq};
+ghost use Rattle.std.specs.Prelude.{◌≡◌, ◌+◌, ◌*◌, ◌≤◌, map, length, replicate, Some, None};
 ghost use Rattle.model.specs.Memory.{splice};
-ghost use Rattle.line_buffer.specs.Lines.{line_bytes, cell_at, laid, KeptBut};
+ghost use Rattle.line_buffer.specs.Lines.{line_bytes, cell_at, only_at, laid, KeptBut};
 
 use memory::Memory;
 
@@ -38,6 +38,7 @@ impl Line {
         ensures cells { result.cells ≡ splice self.cells offset (map Some from.now) }
         ensures width { length self.cells ≡ line_bytes }
     {
+        // By index: after a `zip` of `iter_mut` the check knows how many cells there are, not what was written.
         for (i, b) in from.iter().enumerate() {
             self.cells[offset + i] = Some(*b);
         }
@@ -48,7 +49,7 @@ impl Line {
     fn start(self) -> usize
         ensures { result ≡ self.number * line_bytes }
     {
-        self.number as usize * LINE_BYTES
+        usize::from(self.number) * LINE_BYTES
     }
 
     /// Lays the written bytes over those that were read from the address `at` on.
@@ -60,6 +61,7 @@ impl Line {
         }
     }
 
+    // Beside `lay`: one walk for both is a trait with two impls for three lines, and a memory promises more.
     /// Writes the written bytes to the memory below.
     pub(crate) fn write_back<M: Memory>(self, below: &mut M)
         ensures bytes { M.bytes below.new ≡ laid 0 (cell_at self) (M.bytes below.old) }
@@ -73,7 +75,7 @@ impl Line {
 
 /// Lays the byte of one address, if it was written, over those that were read from the address `at` on.
 fn lay_cell(cell: Option<u8>, address: usize, at: usize, out: &mut [u8])
-    ensures { out.new ≡ laid at (λ k. (if nat_eq k address then cell else None)) out.old }
+    ensures { out.new ≡ laid at (only_at address cell) out.old }
 {
     if let Some(b) = cell {
         if at <= address && address - at < out.len() {
@@ -84,8 +86,8 @@ fn lay_cell(cell: Option<u8>, address: usize, at: usize, out: &mut [u8])
 
 /// Writes the byte of one address, if it was written, to the memory below; past its end there is none.
 fn write_cell<M: Memory>(cell: Option<u8>, address: usize, below: &mut M)
-    ensures bytes { M.bytes below.new ≡ laid 0 (λ k. (if nat_eq k address then cell else None)) (M.bytes below.old) }
-    ensures durable { KeptBut (λ k. (if nat_eq k address then cell else None)) (M.durable below.old) (M.durable below.new) }
+    ensures bytes { M.bytes below.new ≡ laid 0 (only_at address cell) (M.bytes below.old) }
+    ensures durable { KeptBut (only_at address cell) (M.durable below.old) (M.durable below.new) }
 {
     if let Some(b) = cell {
         let _ = below.write(address, &[b]);

@@ -1,9 +1,9 @@
 //! The held lines, without the memory below, and a piece of a write that goes into one of them.
 
-ghost use Rattle.std.specs.Prelude.{◌≡◌, ℕ, ◌+◌, ◌%◌, ◌<◌, ◌≤◌, true, false, ◌⊎◌, [], ◌∷◌, ◌++◌, length, IfSome, IfOk, if◌then◌else◌, MatchOption, vec_len, vec_capacity, slice_index, get_or};
+ghost use Rattle.std.specs.Prelude.{◌≡◌, ℕ, ◌+◌, ◌%◌, ◌<◌, ◌≤◌, true, false, ◌⊎◌, [], length, IfSome, IfOk, MatchOption, vec_len, vec_capacity, slice_index, get_or};
 ghost use Rattle.std.specs.List.{remove};
 ghost use Rattle.model.specs.Numbers.{most_bytes};
-ghost use Rattle.line_buffer.specs.Lines.{line_bytes, most_lines, numbers, member, apart, held_at, laid, overlaid, takes};
+ghost use Rattle.line_buffer.specs.Lines.{line_bytes, most_lines, numbers, numbers_with, member, apart, held_at, laid, overlaid, takes};
 
 use crate::line::{LINE_BYTES, Line, MOST_LINES};
 use memory::Memory;
@@ -67,6 +67,7 @@ impl HeldLines {
         }
     }
 
+    // Beside `overlay`, as `Line::write_back` is beside `lay`, and for what is said there.
     /// Writes all held bytes to the memory below.
     pub(crate) fn write_back<M: Memory>(&self, below: &mut M)
         ensures { M.bytes below.new ≡ overlaid self.now.lines.items (M.bytes below.old) }
@@ -103,7 +104,7 @@ impl HeldLines {
     pub(crate) fn hold(&mut self, piece: Piece<'_>)
         requires { takes (numbers self.old.lines.items) (line_of piece) ≡ true }
         ensures held { (k : ℕ) → held_at self.new.lines.items k ≡ held_with self.old piece.entry k }
-        ensures numbers { numbers self.new.lines.items ≡ (if member (line_of piece.entry) (numbers self.old.lines.items) then numbers self.old.lines.items else numbers self.old.lines.items ++ line_of piece.entry ∷ []) }
+        ensures numbers { numbers self.new.lines.items ≡ numbers_with (numbers self.old.lines.items) (line_of piece.entry) }
     {
         let number = piece.number();
         match self.find(number) {

@@ -1,6 +1,6 @@
 //! A memory that is always durable.
 
-ghost use Rattle.std.specs.Prelude.{◌≡◌, ℕ, ◌≤◌, true, vec_len};
+ghost use Rattle.std.specs.Prelude.{◌≡◌, ◌≤◌, true, vec_len};
 ghost use Rattle.model.specs.Numbers.{most_bytes};
 ghost use Rattle.model.specs.Memory.{capped, AllDurable, Survived};
 

@@ -8,7 +8,7 @@ pub mod range;
 pub mod shadow;
 pub mod survive;
 
-ghost use Rattle.std.specs.Prelude.{◌≡◌, ℕ, ◌≤◌, Bool, false, List, length, is_ok, if◌then◌else◌, Ok, Err};
+ghost use Rattle.std.specs.Prelude.{◌≡◌, ℕ, ◌≤◌, Bool, false, List, length, is_ok, if◌then◌else◌};
 ghost use Rattle.model.specs.Numbers.{most_bytes};
 ghost use Rattle.model.specs.Memory.{part, splice, AllDurable, Kept, Survived};
 ghost use Rattle.memory.specs.Ranges.{answer_within};

@@ -1,6 +1,6 @@
 //! The answer to a call for a range, and the copies out of a range and into it.
 
-ghost use Rattle.std.specs.Prelude.{◌≡◌, ℕ, ◌+◌, ◌≤◌, length, is_ok, if◌then◌else◌, vec_len, nat_le};
+ghost use Rattle.std.specs.Prelude.{◌≡◌, ◌+◌, length, is_ok, if◌then◌else◌, vec_len, nat_le};
 ghost use Rattle.model.specs.Memory.{part, splice};
 ghost use Rattle.memory.specs.Ranges.{answer_of, answer_within};
 

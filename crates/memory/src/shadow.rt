@@ -1,6 +1,6 @@
 //! A memory of two halves: writes go to the working half, and only a flush copies it to the image.
 
-ghost use Rattle.std.specs.Prelude.{◌≡◌, ℕ, ◌≤◌, false, length, is_ok, if◌then◌else◌, Ok, Err, vec_len};
+ghost use Rattle.std.specs.Prelude.{◌≡◌, ℕ, ◌≤◌, false, length, is_ok, if◌then◌else◌, vec_len};
 ghost use Rattle.model.specs.Numbers.{most_bytes};
 ghost use Rattle.model.specs.Memory.{paired, splice, AllDurable, Kept, Survived};
 ghost use Rattle.memory.specs.Shadow.{agree};

@@ -1,6 +1,6 @@
 //! What the contract of [`Memory`] is good for, proved once for every memory.
 
-ghost use Rattle.std.specs.Prelude.{◌≡◌, ℕ, Bool, true, false, ◌&&◌, length, is_ok, if◌then◌else◌, Ok, Err};
+ghost use Rattle.std.specs.Prelude.{◌≡◌, ℕ, true, false, ◌&&◌, length, is_ok, if◌then◌else◌};
 ghost use Rattle.model.specs.Memory.{within, part, splice, AllDurable};
 ghost use Rattle.memory.specs.Ranges.{answer_of};
 

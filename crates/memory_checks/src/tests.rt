@@ -24,11 +24,6 @@ fn shadow(heap: Global, working: usize, image: usize) -> Result<ShadowMemory, Al
     Ok(ShadowMemory::new(working, image))
 }
 
-/// A line buffer over a memory.
-fn buffered<M: Memory + Drop>(heap: Global, below: M) -> Result<LineBuffer<M>, AllocError> {
-    Ok(LineBuffer::new(heap, below)?)
-}
-
 /// The byte at an address, or 255 past the end.
 fn byte_at<M: Memory>(memory: &M, at: usize) -> u8 {
     let mut out = [255u8; 1];
@@ -100,10 +95,10 @@ fn every_memory_refuses_what_passes_its_end(rt: HostRuntime) -> Result<(), Fail>
     let heap = rt.alloc();
     check_ranges(&rt, &mut direct(heap, 160)?);
     check_ranges(&rt, &mut shadow(heap, 160, 160)?);
-    check_ranges(&rt, &mut buffered(heap, direct(heap, 160)?)?);
+    check_ranges(&rt, &mut LineBuffer::new(heap, direct(heap, 160)?)?);
     check_ranges(
         &rt,
-        &mut buffered(heap, buffered(heap, shadow(heap, 160, 160)?)?)?,
+        &mut LineBuffer::new(heap, LineBuffer::new(heap, shadow(heap, 160, 160)?)?)?,
     );
     check_ranges(&rt, &mut CountingMemory::new(direct(heap, 160)?));
     Ok(())
@@ -145,7 +140,7 @@ fn a_shadow_memory_shows_the_image_after_a_restart(rt: HostRuntime) -> Result<()
 #[test]
 fn eight_lines_are_held_and_the_ninth_sends_the_oldest_back(rt: HostRuntime) -> Result<(), Fail> {
     let heap = rt.alloc();
-    let mut memory = buffered(heap, direct(heap, 160)?)?;
+    let mut memory = LineBuffer::new(heap, direct(heap, 160)?)?;
     for line in 0..8usize {
         memory.write(line * 16, &[1])?;
         assert_eq!(rt;
@@ -168,7 +163,7 @@ fn eight_lines_are_held_and_the_ninth_sends_the_oldest_back(rt: HostRuntime) -> 
 #[test]
 fn a_line_that_is_still_to_be_written_does_not_go_back(rt: HostRuntime) -> Result<(), Fail> {
     let heap = rt.alloc();
-    let mut memory = buffered(heap, direct(heap, 160)?)?;
+    let mut memory = LineBuffer::new(heap, direct(heap, 160)?)?;
     for line in 1..9usize {
         memory.write(line * 16, &[1])?;
     }
@@ -191,7 +186,7 @@ fn a_line_that_is_still_to_be_written_does_not_go_back(rt: HostRuntime) -> Resul
 #[test]
 fn a_write_longer_than_the_buffer_shows_whole(rt: HostRuntime) -> Result<(), Fail> {
     let heap = rt.alloc();
-    let mut memory = buffered(heap, direct(heap, 160)?)?;
+    let mut memory = LineBuffer::new(heap, direct(heap, 160)?)?;
     let data = [6u8; 150];
     memory.write(5, &data)?;
     let expected = [
@@ -213,7 +208,7 @@ fn a_write_longer_than_the_buffer_shows_whole(rt: HostRuntime) -> Result<(), Fai
 #[test]
 fn of_a_partial_line_only_written_bytes_go_back(rt: HostRuntime) -> Result<(), Fail> {
     let heap = rt.alloc();
-    let mut memory = buffered(heap, DirectMemory::new(vec![in heap; 3u8; 20]?))?;
+    let mut memory = LineBuffer::new(heap, DirectMemory::new(vec![in heap; 3u8; 20]?))?;
     memory.write(17, &[4])?;
     assert_eq!(rt; byte_at(memory.below(), 17), 3);
     memory.flush();
@@ -228,7 +223,7 @@ fn a_line_buffer_over_a_line_buffer_loses_what_neither_flushed(
     rt: HostRuntime,
 ) -> Result<(), Fail> {
     let heap = rt.alloc();
-    let mut memory = buffered(heap, buffered(heap, direct(heap, 320)?)?)?;
+    let mut memory = LineBuffer::new(heap, LineBuffer::new(heap, direct(heap, 320)?)?)?;
     for line in 0..17usize {
         memory.write(line * 16, &[1])?;
     }
@@ -251,7 +246,7 @@ fn what_was_flushed_survives_in_every_memory(rt: HostRuntime) -> Result<(), Fail
     let heap = rt.alloc();
     check_survives(&rt, &mut direct(heap, 64)?)?;
     check_survives(&rt, &mut shadow(heap, 64, 64)?)?;
-    check_survives(&rt, &mut buffered(heap, shadow(heap, 64, 64)?)?)?;
+    check_survives(&rt, &mut LineBuffer::new(heap, shadow(heap, 64, 64)?)?)?;
     let mut counting = CountingMemory::new(shadow(heap, 64, 64)?);
     check_survives(&rt, &mut counting)?;
     assert_eq!(rt; counting.flushes(), 1);

@@ -33,6 +33,7 @@ fn report<M: Memory>(rt: &impl Print, name: &str, memory: &mut M) -> io::Result<
     }
 }
 
+// The tests of memories make theirs alike, of other sizes: a crate for two functions of a line or three is no plainer.
 /// A direct memory of zeros.
 fn direct(heap: Global) -> Result<DirectMemory, AllocError> {
     Ok(DirectMemory::new(vec![in heap; 0u8; BYTES]?))
@@ -45,19 +46,14 @@ fn shadow(heap: Global) -> Result<ShadowMemory, AllocError> {
     Ok(ShadowMemory::new(working, image))
 }
 
-/// A line buffer over a memory.
-fn buffered<M: Memory + Drop>(heap: Global, below: M) -> Result<LineBuffer<M>, AllocError> {
-    Ok(LineBuffer::new(heap, below)?)
-}
-
 fn main(rt: HostRuntime) -> io::Result<()> {
     let heap = rt.alloc();
     let mut plain = direct(heap)?;
     report(&rt, "direct memory", &mut plain)?;
     let mut shadowed = shadow(heap)?;
     report(&rt, "shadow memory", &mut shadowed)?;
-    let mut over_direct = buffered(heap, direct(heap)?)?;
+    let mut over_direct = LineBuffer::new(heap, direct(heap)?)?;
     report(&rt, "line buffer over a direct memory", &mut over_direct)?;
-    let mut over_shadow = buffered(heap, shadow(heap)?)?;
+    let mut over_shadow = LineBuffer::new(heap, shadow(heap)?)?;
     report(&rt, "line buffer over a shadow memory", &mut over_shadow)
 }

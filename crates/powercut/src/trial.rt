@@ -1,7 +1,7 @@
 //! What one memory is put through.
 
-ghost use Rattle.std.specs.Prelude.{◌≡◌, ◌≤◌, ◌↔◌, Some, IfOk, if◌then◌else◌, codes};
-ghost use Rattle.powercut.specs.declared.trial.Fate.TheVariants.{Survived, Lost};
+ghost use Rattle.std.specs.Prelude.{◌≡◌, ◌≤◌, ◌↔◌, IfOk};
+ghost use Rattle.powercut.specs.declared.trial.Fate.TheVariants.{Survived};
 
 use memory::Memory;
 use memory::survive::write_and_survive;

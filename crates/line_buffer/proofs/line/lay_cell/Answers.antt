@@ -1,5 +1,5 @@
-use Rattle.std.proofs.Common.{◌-◌, ◌<◌, ◌≤◌, cond, eqb, length, None, sym, ap, ◌∙◌, arith}
-use Rattle.line_buffer.specs.Lines.{laid}
+use Rattle.std.proofs.Common.{◌-◌, ◌<◌, ◌≤◌, length, sym, ap, ◌∙◌, arith}
+use Rattle.line_buffer.specs.Lines.{only_at, laid}
 use Rattle.line_buffer.proofs.Laid.{laid_one, laid_one_outside, laid_one_none}
 use Rattle.line_buffer.proofs.line.lay_cell.Goals as goal
 use Rattle.line_buffer.proofs.line.lay_cell.Goals.{else-at-address-via-then-at-address+else-address-at, else-at-address-via-else-at-address}
@@ -7,7 +7,7 @@ use Rattle.line_buffer.proofs.line.lay_cell.Goals.{else-at-address-via-then-at-a
 pub returns-then-address-at : goal.returns-then-address-at
 returns-then-address-at c =
     laid_one c.args.at c.args.address c.in-Some.b c.args.out.now c.if-at-address.true c.if-address-at.true
-    ∙ ap (λ v. laid c.args.at (λ k. cond (eqb k c.args.address) v None) c.args.out.now) (sym c.in-Some.is)
+    ∙ ap (λ v. laid c.args.at (only_at c.args.address v) c.args.out.now) (sym c.in-Some.is)
 
 pub returns-else-at-address : goal.returns-else-at-address
 returns-else-at-address c =
@@ -22,4 +22,4 @@ returns-else-at-address c =
 pub returns-in_default : goal.returns-in_default
 returns-in_default c =
     laid_one_none c.args.at c.args.address c.args.out.now
-    ∙ ap (λ v. laid c.args.at (λ k. cond (eqb k c.args.address) v None) c.args.out.now) (sym c.in_default.is)
+    ∙ ap (λ v. laid c.args.at (only_at c.args.address v) c.args.out.now) (sym c.in_default.is)

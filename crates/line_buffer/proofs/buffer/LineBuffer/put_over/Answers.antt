@@ -1,11 +1,10 @@
-use Rattle.std.proofs.Common.{◌≡◌, ℕ, ◌/◌, ◌<◌, ◌≤◌, true, false, cond, [], ◌∷◌, ◌++◌, length, is_ok, vec_items, ap, ◌∙◌, ⊎_elim, arith}
+use Rattle.std.proofs.Common.{◌≡◌, ℕ, ◌/◌, true, false, length, is_ok, vec_items, ap, ◌∙◌, arith}
 use Rattle.std.specs.List.{remove}
 use Rattle.std.proofs.lemmas.List.{length-map}
-use Rattle.std.proofs.lemmas.Bool.{or_parts, ltb-false, cond-true, le-leb, cases_lt}
+use Rattle.std.proofs.lemmas.Bool.{or_parts, ltb-false, cond-true, le-leb}
 use Rattle.model.specs.Memory.{splice}
 use Rattle.line_buffer.specs.declared.lines.HeldLines.{HeldLines}
-use Rattle.line_buffer.specs.Lines.{line_bytes, most_lines, line_number, numbers, member, held_at, written, takes}
-use Rattle.line_buffer.proofs.Written.{written_none}
+use Rattle.line_buffer.specs.Lines.{numbers_with, line_bytes, most_lines, line_number, numbers, member, held_at, written, takes}
 use Rattle.line_buffer.proofs.Put.{put_over, put_through, room_made}
 use Rattle.line_buffer.proofs.buffer.LineBuffer.put_over.Goals as goal
 
@@ -23,8 +22,8 @@ hold-requires g c =
     ap (λ xs. takes (numbers xs) (p.at / line_bytes)) c.evict.ensures.lines
     ∙ room_made ls (g.M.Memory.bytes c.args.self.now.below) p.at p.bytes.now p.inside c.in-Some.i held.distinct c.in-Some.ensures.0 e.0 e.1
 
-pub returns-in-Some : goal.returns-in-Some
-returns-in-Some g c =
+pub returns-in-Some-clause-back : goal.returns-in-Some-clause-back
+returns-in-Some-clause-back g c =
     let held = c.args.self.now.held in
     let ls = vec_items held.lines in
     let xs = g.M.Memory.bytes c.args.self.now.below in
@@ -36,16 +35,12 @@ returns-in-Some g c =
     let e = c.evict.ensures.lines in
     let h : (k : ℕ) → held_at ls' k ≡ written (held_at (remove ls i)) a ys k =
     λ k. c.hold.ensures.held k ∙ ap (λ zs. written (held_at zs) a ys k) e in
-    let n : numbers ls' ≡ cond (member (a / line_bytes) (numbers (remove ls i))) (numbers (remove ls i)) (numbers (remove ls i) ++ a / line_bytes ∷ []) =
-    c.hold.ensures.numbers ∙ ap (λ zs. cond (member (a / line_bytes) (numbers zs)) (numbers zs) (numbers zs ++ a / line_bytes ∷ [])) e in
-    record {
-      back =
-          put_over ls xs a ys c.args.piece.inside i held.distinct c.in-Some.ensures.0 p.0 p.1 c.args.last (rw c.number.ensures at c.in-Some.ensures.1) (g.M.Memory.bytes c.evict.new.self.below) ls' c.evict.ensures.bytes h n;
-      durable = λ k o. c.evict.ensures.durable k (written_none (held_at ls) a ys k o).1;
-    }
+    let n : numbers ls' ≡ numbers_with (numbers (remove ls i)) (a / line_bytes) =
+    c.hold.ensures.numbers ∙ ap (λ zs. numbers_with (numbers zs) (a / line_bytes)) e in
+    put_over ls xs a ys c.args.piece.inside i held.distinct c.in-Some.ensures.0 p.0 p.1 c.args.last (rw c.number.ensures at c.in-Some.ensures.1) (g.M.Memory.bytes c.evict.new.self.below) ls' c.evict.ensures.bytes h n
 
-pub returns-in-None : goal.returns-in-None
-returns-in-None g c =
+pub returns-in-None-clause-back : goal.returns-in-None-clause-back
+returns-in-None-clause-back g c =
     let held = c.args.self.now.held in
     let ls = vec_items held.lines in
     let xs = g.M.Memory.bytes c.args.self.now.below in
@@ -54,11 +49,4 @@ returns-in-None g c =
     let p = eight_lines held (a / line_bytes) c.requires.full in
     let done : is_ok c.write.result ≡ true = ap is_ok (c.write.ensures.answer ∙ cond-true _ _ _ (le-leb _ _ c.requires.range)) in
     let b : g.M.Memory.bytes c.write.new.self ≡ splice xs a ys = c.write.ensures.bytes ∙ cond-true _ _ _ done in
-    record {
-      back =
-          put_through ls xs a ys c.args.piece.inside (g.M.Memory.bytes c.write.new.self) p.0 c.requires.range p.1 b c.args.last;
-      durable = λ k o t. ⊎_elim
-          (λ (l : k < a). c.write.ensures.kept.below k l t)
-          (λ (l : a ≤ k). c.write.ensures.kept.above k ((written_none (held_at ls) a ys k o).0 (λ z. omega arith)) t)
-          (cases_lt k a);
-    }
+    put_through ls xs a ys c.args.piece.inside (g.M.Memory.bytes c.write.new.self) p.0 c.requires.range p.1 b c.args.last

@@ -51,17 +51,12 @@ returns-in-Some c =
       numbers = numbers_found ls a bs c.args.piece.inside c.in-Some.i l c.with.result f.0 c.index.ensures q w.number;
     }
 
-pub returns-in-None : goal.returns-in-None
-returns-in-None c =
+pub returns-in-None-clause-held : goal.returns-in-None-clause-held
+returns-in-None-clause-held c k =
     let w = c.with-in-None.ensures in
     let ls = vec_items c.args.self.now.lines in
     let a = c.args.piece.at in
-    let bs = c.args.piece.bytes.now in
     let o : member (a / line_bytes) (numbers ls) ≡ false = ap (λ n. member n (numbers ls)) (sym c.number-number.ensures) ∙ c.in-None.ensures in
     let n = w.number ∙ c.blank.ensures.number ∙ c.number-number.ensures in
-    record {
-      held = λ k.
-          ap (λ xs. held_at xs k) c.push_reserved.ensures.items
-          ∙ held_at_fresh ls a bs c.args.piece.inside c.with-in-None.result o n (rw (c.blank.ensures.cells, c.offset-in-None.ensures) at w.cells) k;
-      numbers = ap numbers c.push_reserved.ensures.items ∙ numbers_fresh ls a bs c.args.piece.inside c.with-in-None.result o n;
-    }
+    ap (λ xs. held_at xs k) c.push_reserved.ensures.items
+    ∙ held_at_fresh ls a c.args.piece.bytes.now c.args.piece.inside c.with-in-None.result o n (rw (c.blank.ensures.cells, c.offset-in-None.ensures) at w.cells) k
