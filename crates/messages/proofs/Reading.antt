@@ -1,29 +1,13 @@
 -- Reading a message: its record, its header, its body.
-use Rattle.std.proofs.Common.{◌≡◌, ℕ, ◌-◌, ◌<◌, ◌≤◌, true, false, ◌&&◌, ltb, leb, ◌⊎◌, List, length, get_or, take, drop, Some, None, Option, Ok, Err, sym, refl, ap, ◌∙◌, inl, inr, arith}
+use Rattle.std.proofs.Common.{◌≡◌, ℕ, ◌<◌, ◌≤◌, true, false, ◌&&◌, ltb, leb, ◌⊎◌, List, length, get_or, drop, Some, None, Option, sym, refl, ap, ◌∙◌, inl, inr, arith}
 use Rattle.std.proofs.lemmas.Bool.{and_parts, and_from, leb-true, le-leb, le-ltb, lt-ltb, cases_lt, cond-true, cond-false, cond_both}
-use Rattle.std.proofs.lemmas.List.{take_all, length-drop}
 use Rattle.std.proofs.lemmas.Bool.Decides.{nat_tests}
-use Rattle.std.specs.Option.{ok_or}
 use Rattle.model.specs.declared.party.Party.{Party}
 use Rattle.model.specs.Messages.{Body as PlainBody, Message as PlainMessage}
 use Rattle.model.specs.Requests.{is_record}
 use Rattle.model.specs.MessageFormat.{decode_message, decode_body, then_message, number_at, party_at, tid_at, sender_at, receiver_at, kind_at, body_at}
 use Rattle.messages.specs.declared.message.Header.{Header}
 use Rattle.messages.specs.Headers.{header_of, then_header}
-
--- what stands behind a place, to the end
-pub behind : (n : ℕ) (bs : List ℕ) → take (length bs - n) (drop n bs) ≡ drop n bs
-behind n bs = let rest : length (drop n bs) ≤ length bs - n = omega (arith, length-drop n bs) in take_all (length bs - n) (drop n bs) rest
-
--- ## A value that is there, or a refusal
-
-pub some_from_ok : {X E : Type 0} (x : X) (o : Option X) (e : E) → Ok x ≡ ok_or o e → Some x ≡ o
-some_from_ok x None e h = cc
-some_from_ok x (Some y) e h = cc
-
-pub none_from_err : {X E : Type 0} (o : Option X) (why e : E) → Err why ≡ ok_or o e → (None ≡ o) × (why ≡ e)
-none_from_err None why e h = (refl, cc)
-none_from_err (Some x) why e h = let z : ◌≡◌ {A = ℕ} 0 1 = cc in absurd (omega arith)
 
 abbrev pub message_of : Header → PlainBody → PlainMessage
 message_of h b = record { tid = h.tid; sender = h.sender; receiver = h.receiver; body = b }

@@ -108,6 +108,7 @@ fn party_bytes(party: Party, tid: u16) -> [u8; 3]
     [u8::from(kind), high, low]
 }
 
+// The kind is any byte: a parameter of type `Kind` would ask more of callers.
 /// The bytes before a message's body.
 pub fn header_bytes(length: u16, kind: u8, header: Header) -> [u8; BODY]
     ensures { result ≡ be16 length ++ (version ∷ kind ∷ ((be16 header.tid ++ encode_party header.tid header.sender) ++ encode_party header.tid header.receiver)) }

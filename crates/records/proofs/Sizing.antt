@@ -16,7 +16,7 @@ use Rattle.records.specs.declared.item.Item.{Item}
 use Rattle.records.specs.declared.lists.Extent.{Extent}
 use Rattle.records.specs.Extents.{list_extent}
 use Rattle.records.specs.Meaning.{item_meaning}
-use Rattle.records.proofs.Again.{some_from_ok}
+use Rattle.records.proofs.Readers.{some_from_ok, none_from_err}
 use Rattle.records.proofs.Roads.{copied_road, road_first, road_end}
 
 -- ## The size so far and what is left make up the whole
@@ -142,15 +142,14 @@ pub extent_kept :
     o ≡ list_extent all →
     Ok x ≡ ok_or o Malformed →
     (is_list all ≡ true) × (x.count ≡ length all) × (x.size ≡ length (encode_list all))
-extent_kept all o x e k = extent_sized all x (sym (some_from_ok x o Malformed k) ∙ e)
+extent_kept all o x e k = extent_sized all x (some_from_ok x o Malformed k ∙ e)
 
 pub extent_refused :
     (all : List PlainItem) (o : Option Extent) (why : Refusal) →
     o ≡ list_extent all →
     Err why ≡ ok_or o Malformed →
     (is_list all ≡ false) × (why ≡ Malformed)
-extent_refused all None why e k = (extent_formless all e, cc)
-extent_refused all (Some x) why e k = let z : ◌≡◌ {A = ℕ} 0 1 = cc in absurd (omega arith)
+extent_refused all o why e k = let none = none_from_err o why Malformed k in (extent_formless all (none.0 ∙ e), none.1)
 
 -- the same of the extent of a slice
 pub slice_kept :

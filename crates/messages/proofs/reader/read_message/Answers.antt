@@ -5,7 +5,8 @@ use Rattle.model.specs.MessageFormat.{decode_body}
 use Rattle.model.specs.declared.refusal.Refusal.TheVariants.{Malformed}
 use Rattle.model.proofs.MessageWritesAgain.{message_again}
 use Rattle.messages.specs.Meaning.{body_meaning, read_meaning}
-use Rattle.messages.proofs.Reading.{behind, body_in, some_from_ok, none_from_err, read_other, read_headless, read_bodiless, read_whole}
+use Rattle.records.proofs.Readers.{behind, some_from_ok, none_from_err}
+use Rattle.messages.proofs.Reading.{body_in, read_other, read_headless, read_bodiless, read_whole}
 use Rattle.messages.proofs.reader.read_message.Goals as goal
 
 pub returns-then-not-is_record-clause-value : goal.returns-then-not-is_record-clause-value

@@ -9,7 +9,7 @@ use Rattle.model.proofs.MessageReadsBack.{message_back}
 use Rattle.model.proofs.RequestLaws.{written_short, written_done}
 use Rattle.model.proofs.Splices.{splice_start, splice_more, placed_fits}
 use Rattle.messages.specs.Meaning.{body_meaning, message_meaning}
-use Rattle.messages.proofs.Reading.{some_from_ok}
+use Rattle.records.proofs.Readers.{some_from_ok}
 use Rattle.messages.proofs.Writing.{body_sized, body_bound, message_length, head_of, message_parts}
 use Rattle.messages.proofs.writer.write_message.Goals as goal
 
