@@ -31,6 +31,7 @@ pub(crate) fn request_again(
 {
     let list: Vec<Item<'_>> = items.collect(heap)?;
     let mut buffer = [0u8; LONGEST];
+    // By match, not is_ok_and: a reader sees the way that is never taken.
     match write_request(&mut buffer, list.as_slice()) {
         Ok(length) => Ok(&buffer[..length] == bytes),
         Err(_) => Ok(false),
@@ -44,6 +45,7 @@ pub(crate) fn message_again(message: &Message<'_>, bytes: &[u8]) -> bool
     ensures { result ≡ true }
 {
     let mut buffer = [0u8; LONGEST];
+    // By match, as above.
     match write_message(&mut buffer, message) {
         Ok(length) => &buffer[..length] == bytes,
         Err(_) => false,
