@@ -51,9 +51,9 @@ every_same t u ps (suc n) h =
 
 -- ## A list of what holds of each node
 
-pub with_one : (fs : List Bool) (one q : ℕ) → one < length fs → get_or (set fs one true) q false ≡ (eqb q one || get_or fs q false)
+pub with_one : (fs : List Bool) (one q : ℕ) → q < length fs → get_or (set fs one true) q false ≡ (eqb q one || get_or fs q false)
 with_one fs one q l = go (cases_eq q one)
   where
     go : ((q ≡ one) ⊎ (q ≡ one → ⊥)) → get_or (set fs one true) q false ≡ (eqb q one || get_or fs q false)
-    go (inl e) = ap (λ n. get_or (set fs one true) n false) e ∙ get_or-set_same fs one true false l ∙ sym (ap (λ b. b || get_or fs q false) (eq-eqb q one e))
+    go (inl e) = ap (λ n. get_or (set fs one true) n false) e ∙ get_or-set_same fs one true false (omega (arith, e)) ∙ sym (ap (λ b. b || get_or fs q false) (eq-eqb q one e))
     go (inr e) = get_or-set_other fs one q true false e ∙ sym (ap (λ b. b || get_or fs q false) (ne_eqb q one e))

@@ -1,6 +1,7 @@
 //! How a minitransaction ended at a memory node.
 
 /// The outcome that a journal has of an entry.
+// Two flags, not an enum of four cases: either is read and set without the other.
 #[derive(Clone, Copy, PartialEq, Eq, Debug)]
 pub struct Outcome {
     /// Whether the minitransaction is committed; otherwise it is aborted.

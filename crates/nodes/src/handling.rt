@@ -11,7 +11,6 @@ ghost use Rattle.nodes.specs.Responses.{sent_meaning};
 
 use crate::budget::Budget;
 use crate::envelope::Envelope;
-use crate::flags::mark_node;
 use crate::promises::force_abort;
 use crate::response::{Content, Reaction, Response};
 use crate::state::Node;
@@ -20,6 +19,7 @@ use journal::journal::Journal;
 use journal::lookup::{entry_of, place_of};
 use journal::view::EntryView;
 use memory::Memory;
+use model::participants::mark_node;
 use model::party::Party;
 
 impl<M: Memory, J: Journal> Node<M, J> {

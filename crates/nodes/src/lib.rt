@@ -6,7 +6,6 @@ pub mod access;
 pub mod budget;
 pub mod doubts;
 mod envelope;
-mod flags;
 mod handling;
 pub mod locks;
 mod promises;

@@ -6,11 +6,10 @@ ghost use Rattle.model.specs.Node.{Unresolved as PlainUnresolved};
 ghost use Rattle.model.specs.Handling.{agreed_by, heard as hearing};
 ghost use Rattle.nodes.specs.Tables.{unresolved_meaning, unresolveds_meaning};
 
-use crate::flags::mark_node;
 use crate::table::{Record, Table};
 use journal::search::Numbered;
 use model::numbers::MOST_NODES;
-use model::participants::every_other;
+use model::participants::{every_other, mark_node};
 use model::party::Party;
 
 /// An entry that a restart found past the pointer without an outcome.
