@@ -31,7 +31,7 @@ pub(crate) fn request_again(
 {
     let list: Vec<Item<'_>> = items.collect(heap)?;
     let mut buffer = [0u8; LONGEST];
-    // By match, not is_ok_and: a reader sees the way that is never taken.
+    // By match: with is_ok_and the proof did not close, by search or by a split of the two cases.
     match write_request(&mut buffer, list.as_slice()) {
         Ok(length) => Ok(&buffer[..length] == bytes),
         Err(_) => Ok(false),
@@ -39,13 +39,14 @@ pub(crate) fn request_again(
 }
 
 /// Whether a message, written again, has the bytes that it was read from.
+// Beside `request_again`: a request is written from a slice that has to be collected, a message from itself.
 pub(crate) fn message_again(message: &Message<'_>, bytes: &[u8]) -> bool
     requires form { is_body (body_meaning message.now.body) ≡ true }
     requires bytes { encode_message (message_meaning message.now) ≡ bytes.now }
     ensures { result ≡ true }
 {
     let mut buffer = [0u8; LONGEST];
-    // By match, as above.
+    // By match: with is_ok_and the proof did not close, by search or by a split of the two cases.
     match write_message(&mut buffer, message) {
         Ok(length) => &buffer[..length] == bytes,
         Err(_) => false,

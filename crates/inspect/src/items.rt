@@ -37,25 +37,28 @@ impl fmt::Display for ItemLine<'_> {
                 node,
                 address,
                 data,
-            } => writeln!(
-                f,
-                "  compare node {node}, address {address}:{}",
-                Decimals(data)
-            ),
+            }
+            | Item::Write {
+                node,
+                address,
+                data,
+            } => {
+                let deed = if self.0.is_write() {
+                    "write"
+                } else {
+                    "compare"
+                };
+                writeln!(
+                    f,
+                    "  {deed} node {node}, address {address}:{}",
+                    Decimals(data)
+                )
+            }
             Item::Read {
                 node,
                 address,
                 length,
             } => writeln!(f, "  read node {node}, address {address}, length {length}"),
-            Item::Write {
-                node,
-                address,
-                data,
-            } => writeln!(
-                f,
-                "  write node {node}, address {address}:{}",
-                Decimals(data)
-            ),
         }
     }
 }

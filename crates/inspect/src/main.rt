@@ -10,12 +10,8 @@ mod words;
 use describe::describe;
 use std::io::{BufRead, BufReader};
 
-fn main(rt: HostRuntime) -> anyhow::Result<()> {
-    run(&rt)
-}
-
 /// Answers line by line, to the end of the input.
-fn run(rt: &HostRuntime) -> anyhow::Result<()> {
+fn main(rt: HostRuntime) -> anyhow::Result<()> {
     let heap = rt.alloc();
     for line in BufReader::new(heap, rt.stdin())?.split(heap, b'\n') {
         rt.print(describe(heap, line?.as_slice())?)?;

@@ -8,9 +8,9 @@ ghost use Rattle.model.specs.Journal.{Journal as Log, is_full, is_forced, is_for
 ghost use Rattle.journal.specs.Entries.{entry_meaning, promised};
 ghost use Rattle.journal.specs.Restarts.{Restarted};
 
+use crate::bounds::untouched;
 use crate::promise::Promise;
 use crate::view::EntryView;
-use model::numbers::MOST_ENTRIES;
 use model::refusal::Refusal;
 
 /// Entries in order with their outcomes, forced aborts, and a checkpoint pointer.
@@ -36,11 +36,13 @@ pub trait Journal {
     fn as_made(&self) -> bool
         ensures { result ≡ is_as_made (log self.now) }
     {
-        self.count() == 0
-            && self.forced_count() == 0
-            && self.pointer() == 0
-            && self.highest() == 0
-            && (1..=MOST_ENTRIES).contains(&self.places())
+        untouched(
+            self.count(),
+            self.forced_count(),
+            self.pointer(),
+            self.highest(),
+            self.places(),
+        )
     }
 
     /// How many entries stand.

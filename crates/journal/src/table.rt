@@ -57,8 +57,8 @@ impl<const N: usize> TableJournal<N> {
     }
 }
 
-// A number, and no Option: in the rules a journal whose size does not suffice has the capacity 0.
 /// The capacity that is asked for, if it is one and the tables have as many places as it takes; else none.
+// A number, and no Option: in the rules a journal whose size does not suffice has the capacity 0.
 fn usable_capacity(wanted: usize, places: usize, forced_places: usize) -> usize
     ensures { result ≡ usable wanted places forced_places }
 {

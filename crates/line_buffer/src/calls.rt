@@ -19,6 +19,7 @@ impl<M: Memory> LineBuffer<M> {
         ensures made { IfOk result (λ b. (b.below ≡ below) × (b.held.lines.items ≡ [])) }
         ensures refused { IfErr result (λ e. e.value ≡ below) }
     {
+        // By match: `map` and `map_err` would both take the memory below.
         match HeldLines::new(heap) {
             Ok(held) => Ok(LineBuffer { below, held }),
             Err(_) => Err(AllocFailed { value: below }),

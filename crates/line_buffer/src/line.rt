@@ -61,8 +61,8 @@ impl Line {
         }
     }
 
-    // Beside `lay`: one walk for both is a trait with two impls for three lines, and a memory promises more.
     /// Writes the written bytes to the memory below.
+    // Beside `lay`: a closure for the one step that differs would need clauses longer than the loop.
     pub(crate) fn write_back<M: Memory>(self, below: &mut M)
         ensures bytes { M.bytes below.new ≡ laid 0 (cell_at self) (M.bytes below.old) }
         ensures durable { KeptBut (cell_at self) (M.durable below.old) (M.durable below.new) }

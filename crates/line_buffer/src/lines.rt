@@ -67,8 +67,8 @@ impl HeldLines {
         }
     }
 
-    // Beside `overlay`, as `Line::write_back` is beside `lay`, and for what is said there.
     /// Writes all held bytes to the memory below.
+    // Beside `overlay`: a closure for the one step that differs would need clauses longer than the loop.
     pub(crate) fn write_back<M: Memory>(&self, below: &mut M)
         ensures { M.bytes below.new ≡ overlaid self.now.lines.items (M.bytes below.old) }
     {

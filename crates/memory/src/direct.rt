@@ -10,6 +10,7 @@ use model::numbers::MOST_BYTES;
 use model::refusal::Refusal;
 
 /// Bytes that are durable as soon as they are written.
+// No Model: `into_bytes` gives the very Vec back, which a list of its bytes would not say.
 #[derive(Drop)]
 pub struct DirectMemory {
     content: Vec<u8>,

@@ -12,6 +12,7 @@ use model::numbers::MOST_BYTES;
 use model::refusal::Refusal;
 
 /// A working half and its image; a byte is durable exactly where they agree.
+// Two halves, not one Vec of pairs, and no Model: each is given as a Vec and given back as that very Vec.
 #[derive(Drop)]
 pub struct ShadowMemory {
     working: Vec<u8>,

@@ -44,6 +44,7 @@ impl From<PartyKind> for u8 {
 }
 
 /// The kind of party that a byte of a record stands for; a byte that stands for none is malformed.
+// As for each enum with numbers, written out: an impl by a macro of our own is refused.
 impl TryFrom<u8> for PartyKind {
     type Error = Refusal;
 
@@ -108,8 +109,8 @@ fn party_bytes(party: Party, tid: u16) -> [u8; 3]
     [u8::from(kind), high, low]
 }
 
-// The kind is any byte: a parameter of type `Kind` would ask more of callers.
 /// The bytes before a message's body.
+// The kind is any byte: a parameter of type `Kind` would ask more of callers.
 pub fn header_bytes(length: u16, kind: u8, header: Header) -> [u8; BODY]
     ensures { result ≡ be16 length ++ (version ∷ kind ∷ ((be16 header.tid ++ encode_party header.tid header.sender) ++ encode_party header.tid header.receiver)) }
 {

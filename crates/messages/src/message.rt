@@ -35,6 +35,7 @@ impl From<Kind> for u8 {
 }
 
 /// The kind that a byte of a record stands for; a byte that stands for none is malformed.
+// As for each enum with numbers, written out: an impl by a macro of our own is refused.
 impl TryFrom<u8> for Kind {
     type Error = Refusal;
 
@@ -72,7 +73,7 @@ impl fmt::Display for Kind {
 }
 
 /// What every message says first.
-#[derive(Clone, Copy)]
+#[derive(Clone, Copy, PartialEq, Eq, Debug)]
 pub struct Header {
     /// The minitransaction that the message is about.
     pub tid: u16,

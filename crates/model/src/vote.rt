@@ -32,6 +32,7 @@ impl From<Vote> for u8 {
 }
 
 /// The vote that a byte of a message stands for; a byte that stands for none is malformed.
+// As for each enum with numbers, written out: an impl by a macro of our own is refused.
 impl TryFrom<u8> for Vote {
     type Error = Refusal;
 

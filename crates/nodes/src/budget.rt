@@ -7,8 +7,8 @@ ghost use Rattle.nodes.specs.Budgets.{spent, allows};
 /// The budget of a call in which power does not fail.
 pub const UNLIMITED: u8 = 255;
 
-// A number, and no Option: the budgets of the rules and of all calls are bytes of which 255 means no failure.
 /// How many durable writes a call may still make before power fails.
+// A number, and no Option: the budgets of the rules and of all calls are bytes of which 255 means no failure.
 #[derive(Clone, Copy)]
 pub struct Budget {
     /// The writes that are left, or [`UNLIMITED`].

@@ -8,12 +8,13 @@ ghost use Rattle.records.specs.Cursor.{items_meaning};
 ghost use Rattle.nodes.specs.Tables.{doubts_meaning};
 
 use crate::locks::lists_clash;
-use crate::table::{Record, Table};
+use crate::table::{Row, Table};
 use journal::search::Numbered;
 use records::item_set::{ITEM_SET_BYTES, ItemSet};
 use records::items::Items;
 
 /// A minitransaction in doubt: voted yes here, not yet finished here, power not lost since.
+// Not a Promise, which keeps the writes alone: this keeps all items.
 #[derive(Clone, Copy)]
 pub struct Doubt {
     /// The minitransaction.
@@ -33,7 +34,7 @@ impl Numbered for Doubt {
     }
 }
 
-impl Record for Doubt {
+impl Row for Doubt {
     const VACANT: Doubt = Doubt {
         tid: 0,
         participants: 0,

@@ -10,6 +10,7 @@ use journal::journal::Journal;
 use journal::promise::Promise;
 
 /// Adds a yes entry, if the budget allows it; a full journal refuses and is not altered.
+// The test of the budget stands in each write: a closure over the store would need clauses longer than the step.
 pub(crate) fn add_entry<J: Journal>(journal: &mut J, promise: &Promise, budget: &mut Budget)
     ensures { (cells : List ℕ) (durable : ℕ → Bool) → MadeOne budget.old.left (add_entry promise.now.tid promise.now.participants (set_items promise.now.writes)) (both cells (J.log journal.old)) durable budget.new.left (both cells (J.log journal.new)) durable }
 {

@@ -49,6 +49,7 @@ impl Volatile {
 }
 
 /// A memory and a journal, with what is gone with the power.
+// No Model: clauses also say which bytes of the memory are durable, which the node of the rules does not.
 #[derive(Drop)]
 pub struct Node<M: Memory, J: Journal> {
     pub(crate) memory: M,

@@ -10,7 +10,7 @@ use journal::search::{Numbered, find};
 use model::numbers::MOST_ENTRIES;
 
 /// What a table has records of.
-pub trait Record: Numbered + Copy {
+pub trait Row: Numbered + Copy {
     /// A record that says nothing.
     const VACANT: Self;
 }
@@ -18,14 +18,14 @@ pub trait Record: Numbered + Copy {
 /// Records in the order in which they were added: a place for each entry that a journal can have.
 // An array with a count: the tables of nodes are of fixed size, without a heap, and copied freely as an ArrayVec is not.
 #[derive(Clone, Copy)]
-pub struct Table<T: Record> {
+pub struct Table<T: Row> {
     /// How many there are.
     pub count: usize,
     /// Those, then others that say nothing.
     pub records: [T; MOST_ENTRIES],
 }
 
-impl<T: Record> Table<T> {
+impl<T: Row> Table<T> {
     /// A table in which nothing stands.
     pub fn none() -> Table<T>
         ensures { standing result ≡ [] }

@@ -6,7 +6,7 @@ ghost use Rattle.model.specs.Node.{Unresolved as PlainUnresolved};
 ghost use Rattle.model.specs.Handling.{agreed_by, heard as hearing};
 ghost use Rattle.nodes.specs.Tables.{unresolved_meaning, unresolveds_meaning};
 
-use crate::table::{Record, Table};
+use crate::table::{Row, Table};
 use journal::search::Numbered;
 use model::numbers::MOST_NODES;
 use model::participants::{every_other, mark_node};
@@ -34,7 +34,7 @@ impl Numbered for Unresolved {
     }
 }
 
-impl Record for Unresolved {
+impl Row for Unresolved {
     const VACANT: Unresolved = Unresolved {
         tid: 0,
         participants: 0,

@@ -33,8 +33,8 @@ fn report<M: Memory>(rt: &impl Print, name: &str, memory: &mut M) -> io::Result<
     }
 }
 
-// The tests of memories make theirs alike, of other sizes: a crate for two functions of a line or three is no plainer.
 /// A direct memory of zeros.
+// Beside `shadow`, and their like in the tests of memories: a crate for functions of a line or three is no plainer.
 fn direct(heap: Global) -> Result<DirectMemory, AllocError> {
     Ok(DirectMemory::new(vec![in heap; 0u8; BYTES]?))
 }

@@ -1,6 +1,7 @@
 //! What one memory is put through.
 
-ghost use Rattle.std.specs.Prelude.{◌≡◌, ◌≤◌, ◌↔◌, IfOk};
+ghost use Rattle.std.specs.Prelude.{◌≡◌, ◌≤◌, ◌↔◌, IfOk, Some};
+ghost use Rattle.powercut.specs.Fates.{fate_text};
 ghost use Rattle.powercut.specs.declared.trial.Fate.TheVariants.{Survived};
 
 use memory::Memory;
@@ -40,11 +41,13 @@ impl Fate {
 }
 
 impl fmt::Display for Fate {
+    ghost output = { λ fate. Some (fate_text fate) };
+
     fn fmt<W: fmt::Write>(&self, f: &mut fmt::Formatter<W>) -> fmt::Result {
-        match self {
-            Fate::Survived => write!(f, "survived"),
-            Fate::Lost => write!(f, "were lost"),
-        }
+        f.write_str(match self {
+            Fate::Survived => "survived",
+            Fate::Lost => "were lost",
+        })
     }
 }
 
@@ -92,6 +95,7 @@ fn write_lines<M: Memory>(memory: &mut M) -> Result<(), Refusal> {
 fn count_lines<M: Memory>(memory: &M) -> Result<usize, Refusal>
     ensures { IfOk result (λ n. n ≤ 9) }
 {
+    // By hand: a read may be refused, and a filter cannot end by `?`.
     let mut count = 0;
     for line in 0..LINES {
         let mut byte = [0u8];

@@ -183,7 +183,6 @@ fn a_prepare_has_one_to_eight_items(rt: HostRuntime) {
     assert_eq!(rt; with_body(1, &[]), 1);
 }
 
-/// A finish with one byte changed.
 #[test]
 fn one_byte_decides(rt: HostRuntime) {
     let cases = [

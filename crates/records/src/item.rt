@@ -32,6 +32,7 @@ impl From<ItemKind> for u8 {
 }
 
 /// The kind that the first byte of an item stands for; a byte that stands for none is malformed.
+// As for each enum with numbers, written out: an impl by a macro of our own is refused.
 impl TryFrom<u8> for ItemKind {
     type Error = Refusal;
 
@@ -48,7 +49,7 @@ impl TryFrom<u8> for ItemKind {
 }
 
 /// What a minitransaction asks of one memory node. The data are the very bytes of the record.
-#[derive(Clone, Copy)]
+#[derive(Clone, Copy, PartialEq, Eq, Debug)]
 pub enum Item<'a> {
     /// The bytes that have to stand at the address, or nothing is done anywhere.
     Compare {

@@ -16,7 +16,8 @@ use model::numbers::MOST_ITEMS;
 pub const ITEM_SET_BYTES: usize = 168;
 
 /// Which items of a list are kept.
-#[derive(Clone, Copy)]
+// A value, not a closure: what is kept is then an equation that clauses and proofs can name.
+#[derive(Clone, Copy, PartialEq, Eq, Debug)]
 pub enum Selection {
     /// Every item.
     All,
@@ -39,8 +40,8 @@ impl Selection {
     }
 }
 
-// A count beside bytes of fixed size: nothing here may allocate, and the set is copied.
 /// Up to eight items. It is copied freely, and takes the same room whatever it holds.
+// A count beside bytes of fixed size: nothing here may allocate, and the set is copied.
 #[derive(Clone, Copy)]
 pub struct ItemSet {
     /// How many items it holds.

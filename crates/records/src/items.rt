@@ -14,6 +14,7 @@ use model::refusal::Refusal;
 /// The items that are still to come of a list; it is copied freely, and never allocates.
 #[derive(Clone, Copy)]
 pub struct Items<'a> {
+    // A count of items beside the bytes: where the items end shows only when they are read.
     pub(crate) left: usize,
     pub(crate) bytes: &'a [u8],
 }

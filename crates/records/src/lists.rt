@@ -33,6 +33,7 @@ pub fn list_size(items: Items<'_>) -> Option<usize>
 
 /// Puts the items to come as a list, the count first, into a buffer from a place on;
 /// where no record holds them, or they do not fit, the buffer stays as it is.
+// A buffer and a place, as in `put`.
 pub fn put_list(buffer: &mut [u8], at: usize, items: Items<'_>)
     ensures { buffer.new ≡ (if is_list (items_meaning items.entry) then placed buffer.old at (encode_list (items_meaning items.entry)) else buffer.old) }
 {
@@ -69,6 +70,7 @@ pub(crate) fn list_extent<'a, I: Iterator<Item = Item<'a>>>(items: I) -> Option<
 }
 
 /// Puts items one behind the other.
+// A buffer and a place, as in `put`.
 pub(crate) fn put_items<'a, I: Iterator<Item = Item<'a>>>(buffer: &mut [u8], at: usize, items: I)
     requires can { I.can_next items }
     requires ends { IsFinite (I.remaining items) }

@@ -10,9 +10,8 @@ use crate::item::{FIELDS, Item};
 use model::numbers::LONGEST_ITEM;
 use model::range::fits;
 
-// A buffer and a place go side by side: `put`, `put_one` and `put_list` promise that to callers, who begin anew at each part of a record, so a writer around both would be made at each call.
-
 /// Puts bytes into a buffer from a place on; where they do not fit, the buffer stays as it is.
+// A buffer and a place: each part of a record begins at its own, so a writer around both would be made at each call.
 pub fn put(buffer: &mut [u8], at: usize, bytes: &[u8])
     ensures { buffer.new ≡ placed buffer.old at bytes.now }
 {
@@ -22,6 +21,7 @@ pub fn put(buffer: &mut [u8], at: usize, bytes: &[u8])
 }
 
 /// The two bytes of a number, the higher first.
+// Beside to_be_bytes of the library: its clause says the bytes by the formats' own definition.
 pub fn be_bytes(number: u16) -> [u8; 2]
     ensures { result ≡ be16 number }
 {
@@ -30,6 +30,7 @@ pub fn be_bytes(number: u16) -> [u8; 2]
 
 /// Puts an item into a buffer from a place on, and gives the place behind it;
 /// where no record holds the item, or it does not fit, there is no such place and the buffer stays as it is.
+// A buffer and a place, as in `put`.
 pub fn put_one(buffer: &mut [u8], at: usize, item: &Item<'_>) -> Option<usize>
     ensures end { result ≡ (if has_room buffer.old at (item_meaning item.now) then Some (at + length (encode_item (item_meaning item.now))) else None) }
     ensures bytes { buffer.new ≡ (if is_some result then splice buffer.old at (encode_item (item_meaning item.now)) else buffer.old) }
@@ -53,6 +54,7 @@ pub(crate) fn item_size(item: &Item<'_>) -> Option<usize>
 }
 
 /// Puts an item, and gives the place behind it.
+// A buffer and a place, as in `put`.
 pub(crate) fn put_item(buffer: &mut [u8], at: usize, item: &Item<'_>) -> usize
     requires item_value { is_item (item_meaning item.now) ≡ true }
     requires item_in_bounds { at + length (encode_item (item_meaning item.now)) ≤ length buffer.old }
