@@ -125,6 +125,7 @@ impl HeldLines {
     }
 
     /// Holds nothing any more.
+    // That nothing is held stands as `≡ []` in each contract: a word for it would be no plainer.
     pub(crate) fn clear(&mut self)
         ensures { self.new.lines.items ≡ [] }
     {

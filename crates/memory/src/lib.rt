@@ -34,6 +34,7 @@ pub trait Memory {
         ensures copied { out.new ≡ (if is_ok result then part (bytes self.now) at (length out.old) else out.old) };
 
     /// Gives the bytes from an address on new values; whether these are durable is the memory's choice.
+    // An address and bytes, as a file's write_at takes them: a struct of both would be made at each call.
     fn write(&mut self, at: usize, from: &[u8]) -> Result<(), Refusal>
         ensures answer { result ≡ answer_within (bytes self.old) at (length from.now) }
         ensures bytes { bytes self.new ≡ (if is_ok result then splice (bytes self.old) at from.now else bytes self.old) }

@@ -97,6 +97,7 @@ pub fn read_header(bytes: &[u8]) -> Option<Header>
 }
 
 /// The bytes of a party.
+// Not a From: a coordinator's number is the tid, which a party does not hold.
 fn party_bytes(party: Party, tid: u16) -> [u8; 3]
     ensures { result ≡ encode_party tid party }
 {

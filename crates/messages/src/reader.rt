@@ -91,6 +91,7 @@ fn read_empty<'a>(bytes: &[u8], body: Body<'a>) -> Result<Body<'a>, Refusal>
 }
 
 /// One byte, 1 for yes and 0 for no.
+// Not a TryFrom: bool and slices of bytes are types of the library, and take no impl of ours.
 fn read_flag(bytes: &[u8]) -> Result<bool, Refusal>
     ensures { result ≡ ok_or (decode_flag bytes.now) Malformed }
 {

@@ -10,6 +10,7 @@ use model::refusal::Refusal;
 use std::fmt;
 
 /// Bytes of a line buffer's line.
+// Beside the buffer's own, which it shows to nobody.
 const LINE_BYTES: usize = 16;
 
 /// One line more than a line buffer holds.
