@@ -9,3 +9,4 @@ mod lines;
 mod writes;
 
 pub use buffer::LineBuffer;
+pub use line::{LINE_BYTES, MOST_LINES};

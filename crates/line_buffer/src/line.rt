@@ -7,10 +7,10 @@ ghost use Rattle.line_buffer.specs.Lines.{line_bytes, cell_at, only_at, laid, Ke
 use memory::Memory;
 
 /// The bytes of one line.
-pub(crate) const LINE_BYTES: usize = 16;
+pub const LINE_BYTES: usize = 16;
 
 /// The lines that a buffer holds.
-pub(crate) const MOST_LINES: usize = 8;
+pub const MOST_LINES: usize = 8;
 
 /// Sixteen neighbouring bytes of a memory: which of them were written, and their values.
 #[derive(Clone, Copy)]

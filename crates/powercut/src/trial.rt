@@ -4,17 +4,14 @@ ghost use Rattle.std.specs.Prelude.{◌≡◌, ◌≤◌, ◌↔◌, IfOk, Some}
 ghost use Rattle.powercut.specs.Fates.{fate_text};
 ghost use Rattle.powercut.specs.declared.trial.Fate.TheVariants.{Survived};
 
+use line_buffer::{LINE_BYTES, MOST_LINES};
 use memory::Memory;
 use memory::survive::write_and_survive;
 use model::refusal::Refusal;
 use std::fmt;
 
-/// Bytes of a line buffer's line.
-// Beside the buffer's own, which it shows to nobody.
-const LINE_BYTES: usize = 16;
-
 /// One line more than a line buffer holds.
-const LINES: usize = 9;
+const LINES: usize = MOST_LINES + 1;
 
 /// The byte that is written into each line.
 const MARK: u8 = 5;
