@@ -14,7 +14,7 @@ pub fn place_of<J: Journal>(journal: &J, tid: u16) -> Option<J::Place>
     ensures stands { is_some result ≡ has_entry (J.log journal.now) tid }
     ensures place { IfSome result (λ p. J.position journal.now p ≡ place tid_of tid (J.log journal.now).entries) }
 {
-    // By index: a journal gives a place for an index, and has no list of its entries to iterate over.
+    // By index, as a journal gives its places; `find_map` would go on where a place or its entry is missing.
     for index in 0..journal.count() {
         let place = journal.place(index)?;
         if journal.entry(place)?.tid == tid {

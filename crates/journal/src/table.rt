@@ -62,10 +62,11 @@ impl<const N: usize> TableJournal<N> {
 fn usable_capacity(wanted: usize, places: usize, forced_places: usize) -> usize
     ensures { result ≡ usable wanted places forced_places }
 {
-    if wanted < 1 || wanted > MOST_ENTRIES || places < wanted || forced_places < MOST_FORCED {
-        0
-    } else {
+    let suffices = places >= wanted && forced_places >= MOST_FORCED;
+    if (1..=MOST_ENTRIES).contains(&wanted) && suffices {
         wanted
+    } else {
+        0
     }
 }
 

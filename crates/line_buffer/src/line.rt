@@ -38,7 +38,7 @@ impl Line {
         ensures cells { result.cells ≡ splice self.cells offset (map Some from.now) }
         ensures width { length self.cells ≡ line_bytes }
     {
-        // By index: after a `zip` of `iter_mut` the check knows how many cells there are, not what was written.
+        // By index: with a `zip` of `iter_mut` no proof closed, since the check then knows nothing of what was written.
         for (i, b) in from.iter().enumerate() {
             self.cells[offset + i] = Some(*b);
         }

@@ -13,6 +13,7 @@ use std::process::Abort;
 use std::test::Fail;
 
 /// A direct memory of `count` zeros.
+// Beside `shadow`, and their like in `powercut`: a crate for functions of a line or three is no plainer.
 fn direct(heap: Global, count: usize) -> Result<DirectMemory, AllocError> {
     Ok(DirectMemory::new(vec![in heap; 0u8; count]?))
 }

@@ -59,6 +59,7 @@ fn put_item<M: Memory>(memory: &mut M, item: &Item<'_>)
 }
 
 /// Writes a write item, if the budget allows it.
+// The test of the budget stands in each write, as in `promises`.
 fn put_counted<M: Memory>(memory: &mut M, item: &Item<'_>, budget: &mut Budget)
     ensures { (j : Log) → MadeOne budget.old.left (put (item_meaning item.now)) (both (M.bytes memory.old) j) (M.durable memory.old) budget.new.left (both (M.bytes memory.new) j) (M.durable memory.new) }
 {

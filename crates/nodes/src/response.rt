@@ -39,7 +39,7 @@ pub enum Reaction {
 }
 
 /// What became of a message that was brought to a node.
-// An enum of its own: a Reaction cannot have failed, since it is made before power can fail.
+// An enum of its own: a Reaction does not say whether power failed.
 #[derive(Clone, Copy)]
 pub enum Delivery {
     /// The node took it, and may have an answer.

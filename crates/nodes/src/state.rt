@@ -41,6 +41,7 @@ impl Volatile {
     pub fn forget(&mut self, condition: Condition)
         ensures { volatile_meaning self.new ≡ nothing_but condition }
     {
+        // Field by field: a new value in its place would be copied with all its vacant records.
         self.condition = condition;
         self.doubts.count = 0;
         self.unresolved.count = 0;

@@ -67,6 +67,7 @@ impl<T: Row> Table<T> {
     pub fn replace(&mut self, place: usize, other: T)
         ensures { standing self.new ≡ slice_set (standing self.old) place other }
     {
+        // A test in place of get_mut, as in `model::participants::mark_node`.
         if place < MOST_ENTRIES {
             self.records[place] = other;
         }

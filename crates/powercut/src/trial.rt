@@ -93,7 +93,7 @@ fn write_lines<M: Memory>(memory: &mut M) -> Result<(), Refusal> {
 fn count_lines<M: Memory>(memory: &M) -> Result<usize, Refusal>
     ensures { IfOk result (λ n. n ≤ 9) }
 {
-    // By hand: a read may be refused, and a filter cannot end by `?`.
+    // By hand: a read may be refused, and `try_fold` with a closure that reads is longer.
     let mut count = 0;
     for line in 0..LINES {
         let mut byte = [0u8];

@@ -3,7 +3,7 @@
 use model::refusal::Refusal;
 
 /// 0 where the answer is a value, else the refusal's number.
-// A number: the tables of cases give each answer as the number by which a call reports it.
+// A number: in tables of some hundred cases 0 and 1 read better than Ok(()) and Err(Refusal::Malformed).
 pub(crate) fn number_of<T: Drop>(answer: Result<T, Refusal>) -> u8 {
     match answer {
         Ok(_) => 0,

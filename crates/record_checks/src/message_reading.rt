@@ -46,6 +46,7 @@ fn answer(bytes: &[u8]) -> u8 {
 }
 
 /// The kind of a message; 0 where it is none.
+// A number, as the answers of the tables.
 fn kind(bytes: &[u8]) -> u8 {
     match read_message(bytes) {
         Ok(message) => u8::from(message.body.kind()),
@@ -119,6 +120,7 @@ fn no_prefix_is_a_message(rt: HostRuntime) {
 }
 
 /// A message of this kind about tid 5, from node 1 to the coordinator, with this body.
+// A number, as the answers of the tables.
 fn with_body(kind: u8, body: &[u8]) -> u8 {
     let mut bytes = [0; 160];
     let end = 12 + body.len();

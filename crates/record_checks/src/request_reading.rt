@@ -144,6 +144,7 @@ fn an_item_has_one_to_sixteen_bytes(rt: HostRuntime) {
 }
 
 /// A request with this count byte and so many reads.
+// A number, as the answers of the tables.
 fn reads(count: u8, items: usize) -> u8 {
     if items > 9 {
         return 0;

@@ -11,7 +11,7 @@ use model::numbers::LONGEST_ITEM;
 use model::range::fits;
 
 /// Puts bytes into a buffer from a place on; where they do not fit, the buffer stays as it is.
-// A buffer and a place: each part of a record begins at its own, so a writer around both would be made at each call.
+// A buffer and a place: callers may put at any place, which a writer with a place of its own would not promise.
 pub fn put(buffer: &mut [u8], at: usize, bytes: &[u8])
     ensures { buffer.new ≡ placed buffer.old at bytes.now }
 {

@@ -7,6 +7,7 @@ ghost use Rattle.text.specs.Hex.{hex_digit, hex_pair, hex_bytes};
 use std::alloc::{AllocError, Global};
 
 /// The value of a hexadecimal digit of either case.
+// Beside `to_digit` of the library, which takes a char and gives a u32.
 pub fn hex_digit(digit: u8) -> Option<u8>
     ensures { result ≡ hex_digit digit }
 {
