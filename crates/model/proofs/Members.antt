@@ -1,9 +1,11 @@
 -- Tests over the participants of a minitransaction, taken node by node.
-use Rattle.std.proofs.Common.{◌≡◌, ℕ, zero, suc, ◌<◌, Bool, true, false, cond, not, ◌&&◌, ◌||◌, eqb, ◌⊎◌, List, [], ◌∷◌, ◌++◌, length, get_or, set, sym, refl, ap, ◌∙◌, inl, inr, arith}
+use Rattle.std.proofs.Common.{◌≡◌, ℕ, zero, suc, ◌<◌, Bool, true, false, cond, not, ◌&&◌, ◌||◌, eqb, ◌⊎◌, List, [], ◌∷◌, ◌++◌, length, get_or, set, sym, refl, ap, ◌∙◌, inl, inr, nat_lt, arith}
 use Rattle.std.proofs.lemmas.Bool.{cases_eq, eq-eqb, ne_eqb}
 use Rattle.std.proofs.lemmas.List.{get_or-set_same, get_or-set_other}
 use Rattle.model.specs.Lists.{every}
-use Rattle.model.specs.Participants.{includes, members_below}
+use Rattle.model.specs.Numbers.{most_nodes}
+use Rattle.model.specs.Participants.{includes, members, members_below}
+use Rattle.std.specs.List.{list_all, zip, range_with_len}
 
 every_append : {X : Type 0} (t : X → Bool) (xs ys : List X) → every t (xs ++ ys) ≡ (every t xs && every t ys)
 unfolding every
@@ -57,3 +59,36 @@ with_one fs one q l = go (cases_eq q one)
     go : ((q ≡ one) ⊎ (q ≡ one → ⊥)) → get_or (set fs one true) q false ≡ (eqb q one || get_or fs q false)
     go (inl e) = ap (λ n. get_or (set fs one true) n false) e ∙ get_or-set_same fs one true false (omega (arith, e)) ∙ sym (ap (λ b. b || get_or fs q false) (eq-eqb q one e))
     go (inr e) = get_or-set_other fs one q true false e ∙ sym (ap (λ b. b || get_or fs q false) (ne_eqb q one e))
+
+-- ## Four nodes asked in turn
+
+turn : (h i : Bool) → (h || not (true && i)) ≡ (not i || h)
+turn true true = refl
+turn true false = refl
+turn false true = refl
+turn false false = refl
+
+to_left : (x y z w : Bool) → (x && (y && (z && (w && true)))) ≡ ((((true && x) && y) && z) && w)
+to_left true true true true = refl
+to_left true true true false = refl
+to_left true true false w = refl
+to_left true false z w = refl
+to_left false y z w = refl
+
+-- whether a node takes no part, or it holds of it
+abbrev pub asked_of : ℕ → ℕ × Bool → Bool
+asked_of ps p = p.1 || not (nat_lt p.0 most_nodes && includes ps p.0)
+
+pub asked_all : (ps : ℕ) (hs : List Bool) → length hs ≡ 4 → list_all (asked_of ps) (zip (range_with_len 0 4) hs) ≡ every (λ q. get_or hs q false) (members ps)
+asked_all ps [] l = absurd (omega arith)
+asked_all ps (a ∷ []) l = absurd (omega arith)
+asked_all ps (a ∷ b ∷ []) l = absurd (omega arith)
+asked_all ps (a ∷ b ∷ c ∷ []) l = absurd (omega arith)
+asked_all ps (a ∷ b ∷ c ∷ d ∷ []) l =
+    let t : ℕ → Bool = λ q. get_or (a ∷ b ∷ c ∷ d ∷ []) q false
+    in let x : ℕ → Bool = λ q. not (includes ps q) || t q
+    in let left : list_all (asked_of ps) (zip (range_with_len 0 4) (a ∷ b ∷ c ∷ d ∷ [])) ≡ (x 0 && (x 1 && (x 2 && (x 3 && true)))) =
+    rw (turn a (includes ps 0), turn b (includes ps 1), turn c (includes ps 2), turn d (includes ps 3)) refl
+    in left ∙ to_left (x 0) (x 1) (x 2) (x 3) ∙
+    sym (every_below t ps 3 ∙ ap (λ e. e && x 3) (every_below t ps 2 ∙ ap (λ e. e && x 2) (every_below t ps 1 ∙ ap (λ e. e && x 1) (every_below t ps 0 ∙ ap (λ e. e && x 0) (every_none t ps)))))
+asked_all ps (a ∷ b ∷ c ∷ d ∷ e ∷ hs) l = absurd (omega arith)

@@ -17,13 +17,9 @@ pub fn includes(participants: u8, node: u16) -> bool
 pub fn every_member(participants: u8, holds: &[bool; MOST_NODES]) -> bool
     ensures { result ≡ every_member (λ q. get_or holds.now q false) participants }
 {
-    // A loop: with `all` over the flags and their numbers the proof did not close by search.
-    for (node, held) in holds.iter().enumerate() {
-        if includes(participants, node as u16) && !*held {
-            return false;
-        }
-    }
-    true
+    (0..4)
+        .zip(holds)
+        .all(|(node, held)| *held || !includes(participants, node))
 }
 
 /// Whether something holds of every participant but one, given of which nodes it holds.

@@ -1,17 +1,14 @@
--- A participant of which it does not hold decides; else each turn passes one node more.
-use Rattle.std.proofs.Common.{false, get_or, sym, arith, rules}
-use Rattle.model.proofs.Members.{every_none, every_below, every_fails}
+-- Each node is asked in turn, and the answers of four nodes are those of the participants.
+use Rattle.std.proofs.Common.{◌∙◌, refl, rules}
+use Rattle.std.proofs.lemmas.Iterator.{YieldsList-from_zip, YieldsList-from_range, YieldsList-from_slice}
+use Rattle.std.proofs.lemmas.Iterator.Search.{all_from_yields_List}
+use borrow.Author.Tests.{tests}
+use Rattle.model.proofs.Members.{asked_of, asked_all}
 use Rattle.model.proofs.participants.every_member.Goals as goal
 
-pub loop-node-init : goal.loop-node-init
-loop-node-init c = every_none (λ q. get_or c.args.holds.now q false) c.args.participants
-
-pub returns-then-not-held : goal.returns-then-not-held
-returns-then-not-held c =
-    sym (every_fails (λ q. get_or c.args.holds.now q false) c.args.participants c.loop-node.node 4 (omega arith) (search rules) (search rules))
-
-pub loop-node-preserved : goal.loop-node-preserved
-loop-node-preserved c =
-    let more = every_below (λ q. get_or c.args.holds.now q false) c.args.participants c.loop-node.node in
-    let before = c.loop-node.invariant in
-    search rules
+pub returns : goal.returns
+returns c =
+    all_from_yields_List (asked_of c.args.participants) c.all.new.self _ c.all.result c.all.ensures.ran
+    (YieldsList-from_zip (YieldsList-from_range 0 4 4 c.zip.ensures.first refl) (YieldsList-from_slice c.args.holds.now (search rules)))
+    (λ x b q k. search (rules, tests))
+    ∙ asked_all c.args.participants c.args.holds.now c.told-holds
