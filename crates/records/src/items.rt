@@ -66,7 +66,7 @@ fn well_formed(count: usize, bytes: &[u8]) -> bool
     ensures { result ≡ is_some (decode_items count bytes.now) }
 {
     let mut rest = bytes;
-    // A loop: to a cursor too few items and a bad one are the same end.
+    // A `for` over the turns: after a walk of a cursor both what it has left and its bytes would have to be tested.
     for _item in 0..count {
         let Some((_, after)) = split_item(rest) else {
             return false;
