@@ -1,12 +1,13 @@
 -- What one byte, and one line, written back leaves in the memory below.
-use Rattle.std.proofs.Common.{◌≡◌, ℕ, ◌+◌, ◌-◌, ◌*◌, ◌/◌, ◌%◌, ◌<◌, true, false, cond, eqb, List, [], ◌∷◌, length, get_or, set, is_ok, Some, None, Ok, Err, Result, sym, ap, ◌∙◌, ⊎_elim, add-one, arith}
+use Rattle.std.proofs.Common.{◌≡◌, ℕ, ◌+◌, ◌-◌, ◌*◌, ◌/◌, ◌%◌, ◌<◌, true, false, cond, eqb, List, [], ◌∷◌, length, get_or, set, is_ok, Some, None, Ok, Err, Result, unwrap_or, sym, ap, ◌∙◌, ⊎_elim, add-one, arith}
+use Rattle.std.specs.List.{remove}
 use Rattle.std.proofs.lemmas.List.{set_split}
 use Rattle.std.proofs.lemmas.Bool.{cases_eq, cases_Bool, cond-true, cond-false, eq-eqb, ne_eqb, leb-true, leb-false}
 use Rattle.model.specs.Memory.{within, splice}
 use Rattle.line_buffer.specs.declared.line.Line.{Line}
 use Rattle.line_buffer.specs.Lines.{only_at, line_bytes, numbers, apart, cell_at, held_at, laid}
-use Rattle.line_buffer.proofs.Held.{held_at_at, get_or_numbers}
-use Rattle.line_buffer.proofs.Laid.{cond_none, laid_one, laid_one_outside, laid_nothing}
+use Rattle.line_buffer.proofs.Held.{held_at_at, held_at_removed, get_or_numbers}
+use Rattle.line_buffer.proofs.Laid.{cond_none, laid_one, laid_one_outside, laid_laid, laid_nothing}
 use Rattle.line_buffer.proofs.Hold.{held_at_no_lines}
 
 pub splice_one : (xs : List ℕ) (p b : ℕ) → p < length xs → splice xs p (b ∷ []) ≡ set xs p b
@@ -50,6 +51,20 @@ cell_at_line ls i l k a h r =
 pub cell_at_unheld : (ls : List Line) (i : ℕ) (l : Line) (k : ℕ) → apart (numbers ls) ≡ true → i < length ls → l ≡ get_or ls i l → held_at ls k ≡ None → cell_at l k ≡ None
 cell_at_unheld ls i l k a h r o =
     cell_at_line ls i l k a h r ∙ ap (λ v. cond (eqb (get_or (numbers ls) i 0) (k / line_bytes)) v None) o ∙ cond_none _
+
+-- the bytes that show are the same before and after a line goes back
+pub laid_evicted : (ls ls' : List Line) (i : ℕ) (xs xs' : List ℕ) → apart (numbers ls) ≡ true → i < length ls → ls' ≡ remove ls i → xs' ≡ laid 0 (λ k. cond (eqb (get_or (numbers ls) i 0) (k / line_bytes)) (held_at ls k) None) xs → laid 0 (held_at ls') xs' ≡ laid 0 (held_at ls) xs
+laid_evicted ls ls' i xs xs' a h e b =
+    ap (λ zs. laid 0 (held_at zs) xs') e ∙ ap (laid 0 (held_at (remove ls i))) b
+    ∙ laid_laid 0 _ (held_at (remove ls i)) (held_at ls) xs
+    (λ k v. ⊎_elim
+    (λ (z : get_or (numbers ls) i 0 ≡ k / line_bytes).
+    ap (λ u. unwrap_or u (unwrap_or (cond (eqb (get_or (numbers ls) i 0) (k / line_bytes)) (held_at ls k) None) v)) (held_at_removed ls i k a h ∙ cond-true _ _ _ (eq-eqb _ _ z))
+    ∙ ap (λ u. unwrap_or u v) (cond-true _ _ _ (eq-eqb _ _ z)))
+    (λ (z : get_or (numbers ls) i 0 ≡ k / line_bytes → ⊥).
+    ap (λ u. unwrap_or u (unwrap_or (cond (eqb (get_or (numbers ls) i 0) (k / line_bytes)) (held_at ls k) None) v)) (held_at_removed ls i k a h ∙ cond-false _ _ _ (ne_eqb _ _ z))
+    ∙ ap (λ u. unwrap_or (held_at ls k) (unwrap_or u v)) (cond-false _ _ _ (ne_eqb _ _ z)))
+    (cases_eq (get_or (numbers ls) i 0) (k / line_bytes)))
 
 pub laid_no_lines : (xs : List ℕ) → laid 0 (held_at []) xs ≡ xs
 laid_no_lines xs = sym (laid_nothing 0 (held_at []) xs held_at_no_lines)

@@ -105,6 +105,7 @@ impl HeldLines {
         requires { takes (numbers self.old.lines.items) (line_of piece) ≡ true }
         ensures held { (k : ℕ) → held_at self.new.lines.items k ≡ held_with self.old piece.entry k }
         ensures numbers { numbers self.new.lines.items ≡ numbers_with (numbers self.old.lines.items) (line_of piece.entry) }
+        ensures capacity { vec_capacity self.new.lines ≡ vec_capacity self.old.lines }
     {
         let number = piece.number();
         match self.find(number) {

@@ -37,8 +37,8 @@ invariant_of-self-in-None-clause-distinct c =
     (ap numbers c.push_reserved.ensures.items
     ∙ numbers_fresh ls c.args.piece.at c.args.piece.bytes.now c.args.piece.inside c.with-in-None.result o (c.with-in-None.ensures.number ∙ c.blank.ensures.number ∙ c.number-number.ensures))
 
-pub returns-in-Some : goal.returns-in-Some
-returns-in-Some c =
+pub returns-in-Some-clause-held : goal.returns-in-Some-clause-held
+returns-in-Some-clause-held c =
     let f = c.in-Some.ensures in
     let w = c.with.ensures in
     let ls = vec_items c.args.self.now.lines in
@@ -46,10 +46,15 @@ returns-in-Some c =
     let bs = c.args.piece.bytes.now in
     let l = c.index.result.now in
     let q : l.number ≡ a / line_bytes = sym (get_or_numbers ls c.in-Some.i l f.0 c.index.ensures) ∙ f.1 ∙ c.number-number.ensures in
-    record {
-      held = held_at_found ls a bs c.args.piece.inside c.in-Some.i l c.with.result c.args.self.now.distinct f.0 c.index.ensures q w.number (rw c.offset.ensures at w.cells) w.width;
-      numbers = numbers_found ls a bs c.args.piece.inside c.in-Some.i l c.with.result f.0 c.index.ensures q w.number;
-    }
+    held_at_found ls a bs c.args.piece.inside c.in-Some.i l c.with.result c.args.self.now.distinct f.0 c.index.ensures q w.number (rw c.offset.ensures at w.cells) w.width
+
+pub returns-in-Some-clause-numbers : goal.returns-in-Some-clause-numbers
+returns-in-Some-clause-numbers c =
+    let f = c.in-Some.ensures in
+    let ls = vec_items c.args.self.now.lines in
+    let l = c.index.result.now in
+    let q : l.number ≡ c.args.piece.at / line_bytes = sym (get_or_numbers ls c.in-Some.i l f.0 c.index.ensures) ∙ f.1 ∙ c.number-number.ensures in
+    numbers_found ls c.args.piece.at c.args.piece.bytes.now c.args.piece.inside c.in-Some.i l c.with.result f.0 c.index.ensures q c.with.ensures.number
 
 pub returns-in-None-clause-held : goal.returns-in-None-clause-held
 returns-in-None-clause-held c k =
