@@ -1,5 +1,5 @@
 -- Tests over the participants of a minitransaction, taken node by node.
-use Rattle.std.proofs.Common.{◌≡◌, ℕ, zero, suc, ◌<◌, Bool, true, false, cond, not, ◌&&◌, ◌||◌, eqb, ◌⊎◌, List, [], ◌∷◌, ◌++◌, length, get_or, set, sym, refl, ap, ◌∙◌, inl, inr, nat_lt, arith}
+use Rattle.std.proofs.Common.{◌≡◌, ℕ, zero, suc, ◌<◌, Bool, true, false, cond, not, ◌&&◌, ◌||◌, eqb, ◌⊎◌, ⊎_elim, List, [], ◌∷◌, ◌++◌, length, get_or, set, sym, refl, ap, ◌∙◌, inl, inr, nat_lt, arith}
 use Rattle.std.proofs.lemmas.Bool.{cases_eq, eq-eqb, ne_eqb}
 use Rattle.std.proofs.lemmas.List.{get_or-set_same, get_or-set_other}
 use Rattle.model.specs.Lists.{every}
@@ -53,11 +53,14 @@ every_same t u ps (suc n) h =
 
 -- ## A list of what holds of each node
 
-pub with_one : (fs : List Bool) (one q : ℕ) → q < length fs → get_or (set fs one true) q false ≡ (eqb q one || get_or fs q false)
+pub with_one : (fs : List Bool) (one q : ℕ) → ((one < length fs) ⊎ (q < length fs)) → get_or (set fs one true) q false ≡ (eqb q one || get_or fs q false)
 with_one fs one q l = go (cases_eq q one)
   where
+    within : q ≡ one → one < length fs
+    within e = ⊎_elim (λ (h : one < length fs). h) (λ (h : q < length fs). omega (arith, e)) l
+
     go : ((q ≡ one) ⊎ (q ≡ one → ⊥)) → get_or (set fs one true) q false ≡ (eqb q one || get_or fs q false)
-    go (inl e) = ap (λ n. get_or (set fs one true) n false) e ∙ get_or-set_same fs one true false (omega (arith, e)) ∙ sym (ap (λ b. b || get_or fs q false) (eq-eqb q one e))
+    go (inl e) = ap (λ n. get_or (set fs one true) n false) e ∙ get_or-set_same fs one true false (within e) ∙ sym (ap (λ b. b || get_or fs q false) (eq-eqb q one e))
     go (inr e) = get_or-set_other fs one q true false e ∙ sym (ap (λ b. b || get_or fs q false) (ne_eqb q one e))
 
 -- ## Four nodes asked in turn
