@@ -42,17 +42,15 @@ impl Entry {
         }
     }
 
-    /// The entry with its outcome durable; a pending outcome is kept or lost.
-    pub(crate) fn made_durable(self, keeps_pending: bool) -> Entry
-        ensures { result ≡ durable_entry keeps_pending self }
+    /// Makes the outcome durable; a pending one is kept or lost.
+    pub(crate) fn make_durable(&mut self, keeps_pending: bool)
+        ensures { self.new ≡ durable_entry keeps_pending self.old }
     {
-        let outcome = self
+        let _ = self
             .outcome
-            .filter(|outcome| keeps_pending || outcome.durable)
-            .map(|outcome| Outcome {
-                durable: true,
-                ..outcome
-            });
-        Entry { outcome, ..self }
+            .take_if(|outcome| !(keeps_pending || outcome.durable));
+        if let Some(outcome) = &mut self.outcome {
+            outcome.durable = true;
+        }
     }
 }

@@ -85,7 +85,7 @@ fn make_durable(entries: &mut [Entry], keeps_pending: bool)
     ensures { entries.new ≡ map (durable_entry keeps_pending) entries.old }
 {
     for entry in entries.iter_mut() {
-        *entry = entry.made_durable(keeps_pending);
+        entry.make_durable(keeps_pending);
     }
 }
 
