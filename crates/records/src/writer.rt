@@ -70,6 +70,10 @@ pub(crate) fn put_item(buffer: &mut [u8], at: usize, item: &Item<'_>) -> usize
         item.span() as u8,
     ];
     put(buffer, at, &fields);
-    put(buffer, at + FIELDS, item.data());
-    at + FIELDS + item.data().len()
+    let data = item.data();
+    if data.is_empty() {
+        return at + FIELDS;
+    }
+    put(buffer, at + FIELDS, data);
+    at + FIELDS + data.len()
 }
