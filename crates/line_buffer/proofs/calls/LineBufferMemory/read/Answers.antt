@@ -18,4 +18,4 @@ returns-clause-copied g c =
     let h = held_at (vec_items c.args.self.now.held.lines) in
     let xs = g.M.Memory.bytes c.args.self.now.below in
     let fit = leb-true _ _ (done_within OutOfRange _ c.in_ok-read.ensures.answer) in
-    c.overlay.ensures ∙ ap (laid c.args.at h) c.in_ok-read.ensures.copied ∙ laid_part h xs c.args.at (length c.args.out.now) fit
+    c.overlay.ensures ∙ ap (laid c.args.at h) (search rules) ∙ laid_part h xs c.args.at (length c.args.out.now) fit
